@@ -1,0 +1,6 @@
+pub mod Refusals
+pub mod Model
+pub mod Listed
+pub mod Limits
+pub mod Checks
+pub mod Views

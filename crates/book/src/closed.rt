@@ -1,0 +1,71 @@
+ghost use mathlib.Core.Path.{_≡_};
+ghost use mathlib.Core.List.{[], _∷_};
+ghost use Prim.Native.Nat.{_≤_};
+ghost use lib.ListN.{length};
+ghost use Rattle.std.specs.declared.result.Result.the-variants.{Ok, Err};
+ghost use Rattle.std.specs.Results.{Cases};
+ghost use Rattle.book.specs.Checks.{Judged, bidderExists, valueAllowed};
+ghost use Rattle.book.specs.Limits.{WithinLimits};
+ghost use Rattle.book.specs.Model.{row, withValue, welfare as welfareOf};
+ghost use Rattle.book.specs.Views.{closed-view};
+use crate::ledger::Ledger;
+use crate::ledger::VALUE_LIMIT;
+use crate::refusal::Refusal;
+use crate::row::Row;
+use sets::BidderSet;
+
+/// A book that takes no more bids.
+#[derive(Drop)]
+pub struct ClosedBook {
+    pub(crate) ledger: Ledger,
+}
+
+impl ClosedBook {
+    /// The number of items.
+    pub fn items(&self) -> usize
+        ensures { λ r. ⌜ r ≡ closed-view (now (self .entry)) .items ⌝ }
+    {
+        self.ledger.items
+    }
+
+    /// The number of rows.
+    pub fn len(&self) -> usize
+        ensures value { λ r. ⌜ r ≡ length (closed-view (now (self .entry)) .rows) ⌝ }
+        ensures bound { λ r. ⌜ r ≤ 64 ⌝ }
+    {
+        self.ledger.rows.len()
+    }
+
+    /// The bidder's row.
+    pub fn show(&self, bidder: usize) -> Result<Row, Refusal>
+        ensures { λ r. ⌜ Judged (bidderExists (closed-view (now (self .entry))) bidder ∷ []) (λ e. r ≡ Err e) (r ≡ Ok (row (closed-view (now (self .entry))) bidder)) ⌝ }
+    {
+        self.ledger.row(bidder)
+    }
+
+    /// The sum of the values that the bidders of `set` declare.
+    pub fn welfare(&self, set: BidderSet) -> u64
+        ensures { λ r. ⌜ r ≡ welfareOf (closed-view (now (self .entry))) (set .word) ⌝ }
+    {
+        let mut total = 0;
+        for (bidder, row) in self.ledger.rows.as_slice().iter().enumerate() {
+            if set.has(bidder) {
+                total += u64::from(row.value);
+            }
+        }
+        total
+    }
+
+    /// The same book, in which the bidder declares `value`.
+    pub fn with_value(&self, bidder: usize, value: u32) -> Result<ClosedBook, Refusal>
+        ensures { λ r. ⌜ Judged (bidderExists (closed-view (now (self .entry))) bidder ∷ valueAllowed value ∷ []) (λ e. r ≡ Err e) (Cases r (λ made. closed-view made ≡ withValue bidder value (closed-view (now (self .entry)))) (λ _. ⊥)) ⌝ }
+    {
+        let row = self.ledger.row(bidder)?;
+        if value > VALUE_LIMIT {
+            return Err(Refusal::ValueAboveLimit);
+        }
+        let mut ledger = self.ledger;
+        ledger.rows.set(bidder, Row { value, ..row });
+        Ok(ClosedBook { ledger })
+    }
+}
