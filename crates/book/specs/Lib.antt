@@ -3,4 +3,5 @@ pub mod Model
 pub mod Listed
 pub mod Limits
 pub mod Checks
+pub mod Runs
 pub mod Views

@@ -6,6 +6,7 @@ mod open;
 mod refusal;
 mod row;
 mod rows;
+mod runs;
 
 pub use call::Answer;
 pub use call::Call;

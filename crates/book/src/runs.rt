@@ -1,0 +1,47 @@
+ghost use mathlib.Core.Path.{_≡_};
+ghost use Rattle.book.specs.Checks.{Serves, answer};
+ghost use Rattle.book.specs.Model.{fresh};
+ghost use Rattle.book.specs.Runs.{step, run, OnlyValueMoves, EachHasBid};
+ghost use Rattle.book.specs.Views.{view};
+use crate::call::Answer;
+use crate::call::Call;
+use crate::open::OpenBook;
+use crate::refusal::Refusal;
+
+impl OpenBook {
+    /// Makes one call.
+    pub fn apply(&mut self, call: Call) -> Result<Answer, Refusal>
+        ensures served { λ r. ⌜ Serves call (answer call (view (now (self .entry)))) (view (now (self .entry))) r (view (now (self .exit))) ⌝ }
+        ensures stepped { λ _. ⌜ view (now (self .exit)) ≡ step call (view (now (self .entry))) ⌝ }
+    {
+        match call {
+            Call::Size { items } => {
+                self.size(items)?;
+                Ok(Answer::Done)
+            }
+            Call::Enter { bundle, value } => Ok(Answer::Entered(self.enter(bundle, value)?)),
+            Call::Revise { bidder, value } => {
+                self.revise(bidder, value)?;
+                Ok(Answer::Done)
+            }
+            Call::Withdraw { bidder } => {
+                self.withdraw(bidder)?;
+                Ok(Answer::Done)
+            }
+            Call::Show { bidder } => Ok(Answer::Shown(self.show(bidder)?)),
+        }
+    }
+
+    /// The book that the calls make of a fresh one, one after the other; refused ones do nothing.
+    pub fn from_calls(calls: &[Call]) -> OpenBook
+        ensures made { λ r. ⌜ view r ≡ run (now (calls .entry)) fresh ⌝ }
+        ensures alone { λ _. ⌜ OnlyValueMoves (now (calls .entry)) ⌝ }
+        ensures bids { λ _. ⌜ EachHasBid (now (calls .entry)) ⌝ }
+    {
+        let mut book = OpenBook::new();
+        for call in calls {
+            let _ = book.apply(*call);
+        }
+        book
+    }
+}
