@@ -10,7 +10,7 @@ use lib.ListN.{length}
 use Rattle.std.specs.declared.result.Result.{Result}
 use Rattle.std.specs.declared.result.Result.the-variants.{Ok, Err}
 use Rattle.std.specs.Results.{mapped}
-use Rattle.std.proofs.shelf.Tests.{and-from, and-left, and-right, le-leb, lt-leb, lt-ltb, le-ltb, eq-eqb, ne-eqb, cond-true, cond-false, cases-lt, false≢true}
+use Rattle.std.proofs.shelf.Tests.{and-from, and-left, and-right, le-leb, lt-leb, lt-ltb, le-ltb, eq-eqb, ne-eqb, cond-true, cond-false, cases-lt, both-ways}
 use Rattle.sets.specs.Members.{NoMember, Within}
 use Rattle.sets.proofs.Words.{none-zero, some-pos, below-within, within-below}
 use Rattle.book.specs.declared.call.Answer.{Answer}
@@ -19,9 +19,9 @@ use Rattle.book.specs.declared.call.Call.the-variants.{Size, Enter, Revise, Wi
 use Rattle.book.specs.declared.refusal.Refusal.{Refusal}
 use Rattle.book.specs.declared.row.Mark.{Mark}
 use Rattle.book.specs.declared.row.Mark.the-variants.{Standing, Withdrawn}
-use Rattle.book.specs.Checks.{Check, Judged, checks, next, answer, Serves}
+use Rattle.book.specs.Checks.{Check, Judged, Passes, checks, next, answer, Serves}
 use Rattle.book.specs.Model.{Book, row, greatest}
-use Rattle.book.specs.Runs.{isStanding, stands, accepts, step}
+use Rattle.book.specs.Runs.{isStanding, stands, accepts, step, AcceptsByChecks}
 
 judged-map : (cs : List Check) (R R′ : Refusal → Type 0) (A A′ : Type 0) → ((e : Refusal) → R e → R′ e) → (A → A′) → Judged cs R A → Judged cs R′ A′
 judged-map [] R R′ A A′ refused accepted j = accepted j
@@ -34,13 +34,9 @@ abbrev EachRefutes : List Check → Bool → Type 0
 EachRefutes [] t = Unit {0}
 EachRefutes (c ∷ cs) t = (c .fails → t ≡ false) × EachRefutes cs t
 
-abbrev NoneFails : List Check → Type 0
-NoneFails [] = Unit {0}
-NoneFails (c ∷ cs) = (c .fails → ⊥) × NoneFails cs
-
 pub record Tested (cs : List Check) (t : Bool) : Type 0 where
   pub refuted : EachRefutes cs t
-  pub passed : NoneFails cs → t ≡ true
+  pub passed : Passes cs → t ≡ true
 
 judged-cond : (cs : List Check) (t : Bool) (before after more : Book) → Tested cs t → Judged cs (λ _. after ≡ before) (after ≡ more) → after ≡ cond t more before
 judged-cond [] t before after more tested j = j ∙ sym (cond-true t more before (tested .passed tt))
@@ -84,9 +80,13 @@ tested (Size m) b = record {
 tested (Enter s v) b = record {
   refuted = (
     (λ h. and-right (leb v greatest) _ (and-left _ _ (le-ltb _ _ h))),
-    ((λ h. and-right (leb v greatest) _ (and-right (ltb (length (b .rows)) 64) _ (and-left _ _ (le-ltb 0 (s .word) (omega (arith, none-zero (s .word) h)))))),
-      ((λ h. and-right (leb v greatest) _ (and-right (ltb (length (b .rows)) 64) _ (and-right (ltb 0 (s .word)) _ (le-ltb _ _ (not-within (b .items) (s .word) h))))),
-        ((λ h. and-left _ _ (lt-leb v greatest h)), tt))),
+    (
+      (λ h. and-right (leb v greatest) _ (and-right (ltb (length (b .rows)) 64) _ (and-left _ _ (le-ltb 0 (s .word) (omega (arith, none-zero (s .word) h)))))),
+      (
+        (λ h. and-right (leb v greatest) _ (and-right (ltb (length (b .rows)) 64) _ (and-right (ltb 0 (s .word)) _ (le-ltb _ _ (not-within (b .items) (s .word) h))))),
+        ((λ h. and-left _ _ (lt-leb v greatest h)), tt),
+      ),
+    ),
   );
   passed = λ p.
       and-from _ _ (le-leb v greatest (omega (arith, p .1 .1 .1 .0)))
@@ -105,6 +105,13 @@ tested (Withdraw j) b = record {
   passed = λ p. stands-yes b j (p .0) (p .1 .0);
 }
 tested (Show j) b = record { refuted = ((λ h. le-ltb _ _ h), tt); passed = λ p. lt-ltb j (length (b .rows)) (omega (arith, p .0)) }
+
+refuting : (cs : List Check) (t : Bool) → EachRefutes cs t → t ≡ true → Passes cs
+refuting [] t refuted yea = tt
+refuting (c ∷ cs) t refuted yea = ((λ h. both-ways t (refuted .0 h) yea), refuting cs t (refuted .1) yea)
+
+pub accepts-by-checks : AcceptsByChecks
+accepts-by-checks c b = (refuting (checks c b) (accepts c b) (tested c b .refuted), tested c b .passed)
 
 -- ---- what a call's contract gives
 

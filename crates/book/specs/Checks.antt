@@ -27,10 +27,15 @@ infix 70 _if_
 abbrev pub _if_ : Refusal → Type 0 → Check
 e if P = record { refusal = e; fails = P }
 
--- The first check that fails decides; where none does, the call is accepted.
+-- The first check that fails decides; if none does, the call is accepted.
 abbrev pub Judged : List Check → (Refusal → Type 0) → Type 0 → Type 0
 Judged [] refused accepted = accepted
 Judged (c ∷ cs) refused accepted = (c .fails × refused (c .refusal)) ⊎ ((c .fails → ⊥) × Judged cs refused accepted)
+
+-- no check fails
+abbrev pub Passes : List Check → Type 0
+Passes [] = Unit {0}
+Passes (c ∷ cs) = (c .fails → ⊥) × Passes cs
 
 abbrev pub bidderExists : Book → ℕ → Check
 bidderExists b j = NoSuchBidder if (length (b .rows) ≤ j)
@@ -72,7 +77,11 @@ answer (Revise j v) b = Done
 answer (Withdraw j) b = Done
 answer (Show j) b = Shown (row b j)
 
--- ---- the contract of a call
+-- ---- what a contract says
+
+-- r is `good`, or else the refusal of the first check that fails
+abbrev pub Answers : {A : Type 0} → List Check → A → Result A Refusal → Type 0
+Answers cs good r = Judged cs (λ e. r ≡ Err e) (r ≡ Ok good)
 
 -- The call c on `before` gave r and left `after`: accepted, it answers `good` and does what it says; refused, it changes nothing.
 abbrev pub Serves : {A : Type 0} → Call → A → Book → Result A Refusal → Book → Type 0

@@ -21,7 +21,7 @@ pub record WithinLimits (b : Book) : Type 0 where
 -- ---- the same of a row in numbers, as the books' types carry it
 
 abbrev pub Kept : ℕ → Row → Type 0
-Kept items x = (0 < x .bundle .word) × (x .bundle .word < 2 ^ items) × (x .value ≤ 100000000)
+Kept items x = (0 < x .bundle .word) × (x .bundle .word < 2 ^ items) × (x .value ≤ greatest)
 
 abbrev pub EachKept : ℕ → List Row → Type 0
 EachKept items rows = (k : ℕ) → k < length rows → Kept items (getD rows k blank)

@@ -5,11 +5,12 @@ use mathlib.Core.List.{List, [], _∷_, _++_}
 use Prim.Native.Nat.{ℕ, _^_, _≤_, _<_}
 use lib.Dec.{leb, ltb, eqb}
 use lib.ListN.{length}
+use Rattle.std.specs.Orderings.{Decides}
 use Rattle.book.specs.declared.call.Call.{Call}
 use Rattle.book.specs.declared.call.Call.the-variants.{Size, Enter, Revise, Withdraw, Show}
 use Rattle.book.specs.declared.row.Mark.{Mark}
 use Rattle.book.specs.declared.row.Mark.the-variants.{Standing, Withdrawn}
-use Rattle.book.specs.Checks.{next}
+use Rattle.book.specs.Checks.{Passes, checks, next}
 use Rattle.book.specs.Model.{Book, fresh, row, withValue, greatest}
 
 -- ---- the book that a list of calls makes
@@ -79,6 +80,10 @@ abbrev pub bidding : {b : Book} {calls : List Call} {j : ℕ} → LastBid b call
 bidding l v = l .earlier ++ revalued v (l .bid) ∷ l .later
 
 -- ---- laws over runs
+
+-- a call is accepted exactly if no check of it fails
+abbrev pub AcceptsByChecks : Type 0
+AcceptsByChecks = (c : Call) (b : Book) → Decides (accepts c b) (Passes (checks c b))
 
 -- with another value in the last bid of j, the calls make the same book but for the value of j
 abbrev pub OnlyValueMoves : List Call → Type 0

@@ -1,4 +1,7 @@
 use crate::row::Row;
+use crate::row::RowDebug;
+use crate::row::RowEq;
+use crate::row::RowPartialEq;
 use sets::Bundle;
 
 /// A call on an open book.
@@ -12,7 +15,7 @@ pub enum Call {
 }
 
 /// What an accepted call answers.
-#[derive(Clone, Copy)]
+#[derive(Clone, Copy, PartialEq, Eq, Debug)]
 pub enum Answer {
     Done,
     Entered(usize),

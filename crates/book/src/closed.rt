@@ -2,12 +2,10 @@ ghost use mathlib.Core.Path.{_≡_};
 ghost use mathlib.Core.List.{[], _∷_};
 ghost use Prim.Native.Nat.{_≤_};
 ghost use lib.ListN.{length};
-ghost use Rattle.std.specs.declared.result.Result.the-variants.{Ok, Err};
-ghost use Rattle.std.specs.Results.{Cases};
-ghost use Rattle.book.specs.Checks.{Judged, bidderExists, valueAllowed};
+ghost use Rattle.book.specs.Checks.{Answers, bidderExists};
 ghost use Rattle.book.specs.Limits.{WithinLimits};
-ghost use Rattle.book.specs.Model.{row, withValue, welfare as welfareOf};
-ghost use Rattle.book.specs.Views.{closed-view};
+ghost use Rattle.book.specs.Model.{row, welfare as welfareOf};
+ghost use Rattle.book.specs.Views.{recorded, closed-view, Revalues};
 use crate::ledger::Ledger;
 use crate::ledger::VALUE_LIMIT;
 use crate::refusal::Refusal;
@@ -21,6 +19,13 @@ pub struct ClosedBook {
 }
 
 impl ClosedBook {
+    pub(crate) fn of(ledger: Ledger) -> ClosedBook
+        ensures same { λ r. ⌜ closed-view r ≡ recorded ledger ⌝ }
+        ensures limits { λ r. ⌜ WithinLimits (closed-view r) ⌝ }
+    {
+        ClosedBook { ledger }
+    }
+
     /// The number of items.
     pub fn items(&self) -> usize
         ensures { λ r. ⌜ r ≡ closed-view (now (self .entry)) .items ⌝ }
@@ -38,7 +43,7 @@ impl ClosedBook {
 
     /// The bidder's row.
     pub fn show(&self, bidder: usize) -> Result<Row, Refusal>
-        ensures { λ r. ⌜ Judged (bidderExists (closed-view (now (self .entry))) bidder ∷ []) (λ e. r ≡ Err e) (r ≡ Ok (row (closed-view (now (self .entry))) bidder)) ⌝ }
+        ensures { λ r. ⌜ Answers (bidderExists (closed-view (now (self .entry))) bidder ∷ []) (row (closed-view (now (self .entry))) bidder) r ⌝ }
     {
         self.ledger.row(bidder)
     }
@@ -58,7 +63,7 @@ impl ClosedBook {
 
     /// The same book, in which the bidder declares `value`.
     pub fn with_value(&self, bidder: usize, value: u32) -> Result<ClosedBook, Refusal>
-        ensures { λ r. ⌜ Judged (bidderExists (closed-view (now (self .entry))) bidder ∷ valueAllowed value ∷ []) (λ e. r ≡ Err e) (Cases r (λ made. closed-view made ≡ withValue bidder value (closed-view (now (self .entry)))) (λ _. ⊥)) ⌝ }
+        ensures { λ r. ⌜ Revalues (closed-view (now (self .entry))) bidder value r ⌝ }
     {
         let row = self.ledger.row(bidder)?;
         if value > VALUE_LIMIT {
@@ -66,6 +71,6 @@ impl ClosedBook {
         }
         let mut ledger = self.ledger;
         ledger.rows.set(bidder, Row { value, ..row });
-        Ok(ClosedBook { ledger })
+        Ok(ClosedBook::of(ledger))
     }
 }

@@ -110,8 +110,6 @@ impl OpenBook {
         ensures same { λ r. ⌜ closed-view r ≡ view self ⌝ }
         ensures limits { λ r. ⌜ WithinLimits (closed-view r) ⌝ }
     {
-        ClosedBook {
-            ledger: self.ledger,
-        }
+        ClosedBook::of(self.ledger)
     }
 }

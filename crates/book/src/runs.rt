@@ -1,7 +1,7 @@
 ghost use mathlib.Core.Path.{_≡_};
 ghost use Rattle.book.specs.Checks.{Serves, answer};
 ghost use Rattle.book.specs.Model.{fresh};
-ghost use Rattle.book.specs.Runs.{step, run, OnlyValueMoves, EachHasBid};
+ghost use Rattle.book.specs.Runs.{step, run, AcceptsByChecks, OnlyValueMoves, EachHasBid};
 ghost use Rattle.book.specs.Views.{view};
 use crate::call::Answer;
 use crate::call::Call;
@@ -32,16 +32,27 @@ impl OpenBook {
         }
     }
 
-    /// The book that the calls make of a fresh one, one after the other; refused ones do nothing.
+    /// Makes the calls one after the other; refused ones do nothing.
+    fn make(&mut self, calls: &[Call])
+        ensures made { λ _. ⌜ view (now (self .exit)) ≡ run (now (calls .entry)) (view (now (self .entry))) ⌝ }
+        ensures checked { λ _. ⌜ AcceptsByChecks ⌝ }
+        ensures alone { λ _. ⌜ OnlyValueMoves (now (calls .entry)) ⌝ }
+        ensures bids { λ _. ⌜ EachHasBid (now (calls .entry)) ⌝ }
+    {
+        for call in calls {
+            let _ = self.apply(*call);
+        }
+    }
+
+    /// The book that the calls make of a fresh one.
     pub fn from_calls(calls: &[Call]) -> OpenBook
         ensures made { λ r. ⌜ view r ≡ run (now (calls .entry)) fresh ⌝ }
+        ensures checked { λ _. ⌜ AcceptsByChecks ⌝ }
         ensures alone { λ _. ⌜ OnlyValueMoves (now (calls .entry)) ⌝ }
         ensures bids { λ _. ⌜ EachHasBid (now (calls .entry)) ⌝ }
     {
         let mut book = OpenBook::new();
-        for call in calls {
-            let _ = book.apply(*call);
-        }
+        book.make(calls);
         book
     }
 }

@@ -1,6 +1,6 @@
 -- The members of a word under `&`, `|`, `!` and `1 << i`. Words below 2 ^ n with the same members are equal.
 use mathlib.Core.Path.{_≡_, refl, sym, ap, subst, _∙_}
-use mathlib.Core.Logic.{_⊎_, inl, inr, ⊎-elim}
+use mathlib.Core.Logic.{_⊎_, _↔_, inl, inr, ⊎-elim}
 use mathlib.Core.Bool.{true, false, not, cond}
 use Prim.Native.Nat.{ℕ, zero, suc, _+_, _-_, _*_, _/_, _%_, _^_, _≤_, _<_, min, max}
 use native.Mathlib.Numerals.{add-one}
@@ -17,7 +17,7 @@ use Rattle.std.specs.Options.{Cases}
 use Rattle.std.specs.Orderings.{Decides}
 use Rattle.std.proofs.shelf.Bits.{shl-shr, div-below, mod-below}
 use Rattle.std.proofs.shelf.Tests.{cases-order, cases-eq, cases-lt, eqb-true, eqb-false, eq-eqb, ne-eqb, not-true, not-from-false, cond-true, cond-false}
-use Rattle.sets.specs.Members.{Has, has, NoMember, Single, AllBelow, Adds, Drops, Common, Meet, Within, Lowest, LowestCommon, sum-over, size}
+use Rattle.sets.specs.Members.{Has, has, NoMember, Single, AllBelow, Adds, Drops, Meet, Within, Lowest, LowestCommon, sum-over, size}
 
 -- ---- single bits
 
@@ -156,7 +156,7 @@ decides-within n w = (
 
 -- ---- sets made of others
 
-pub common-and : (a b : ℕ) → Common a b (bitAnd a b)
+common-and : (a b k : ℕ) → Has (bitAnd a b) k ↔ (Has a k × Has b k)
 common-and a b k = let e = bit-and a b k in ((λ h. (omega arith, omega arith)), (λ h. omega arith))
 
 pub adds-or : (w i s : ℕ) → Single i s → Adds w i (bitOr w s)
@@ -215,10 +215,11 @@ decides-meet a b la = (
       (ne-eqb (bitAnd a b) 0 (λ e. zero-none (m .0) (subst (λ (v : ℕ). Has v (m .0)) e (common-and a b (m .0) .1 (m .1, m .2)))))),
 )
 
--- the lowest member of what is common
-pub lowest-common : (o : Option ℕ) (a b w : ℕ) → Common a b w → Cases o (NoMember w) (Lowest w) → Cases o (Meet a b → ⊥) (LowestCommon a b)
-lowest-common None a b w both none = λ m. none (m .0) (both (m .0) .1 (m .1, m .2))
-lowest-common (Some i) a b w both low = (both i .0 (low .0) .0, both i .0 (low .0) .1, λ k l p q. low .1 k l (both k .1 (p, q)))
+pub lowest-common : (o : Option ℕ) (a b : ℕ) → Cases o (NoMember (bitAnd a b)) (Lowest (bitAnd a b)) → Cases o (Meet a b → ⊥) (LowestCommon a b)
+lowest-common None a b none = λ m. none (m .0) (common-and a b (m .0) .1 (m .1, m .2))
+lowest-common (Some i) a b low =
+    let both = common-and a b i .0 (low .0) in
+    (both .0, both .1, λ k l p q. low .1 k l (common-and a b k .1 (p, q)))
 
 -- ---- sums over members
 
@@ -228,7 +229,6 @@ sum-with w f n h = rw (add-one n) (ap (λ (x : ℕ). sum-over w f n + x) (cond-t
 
 pub sum-without : (w : ℕ) (f : ℕ → ℕ) (n : ℕ) → (Has w n → ⊥) → sum-over w f (n + 1) ≡ sum-over w f n
 sum-without w f n h = rw (add-one n) (ap (λ (x : ℕ). sum-over w f n + x) (cond-false (has w n) (f n) 0 (ne-eqb _ _ h)) ∙ add-zero _)
-
 
 -- the lowest member apart, and the others by the half of the word
 sum-front : (w : ℕ) (f : ℕ → ℕ) (n : ℕ) → sum-over w f (suc n) ≡ cond (has w 0) (f 0) 0 + sum-over (w / 2) (λ k. f (suc k)) n

@@ -43,10 +43,6 @@ Adds w i r = (k : ℕ) → Has r k ↔ (Has w k ⊎ ((k ≡ i) × (k < 64)))
 abbrev pub Drops : ℕ → ℕ → ℕ → Type 0
 Drops w i r = (k : ℕ) → Has r k ↔ (Has w k × (k ≡ i → ⊥))
 
--- what is in a and in b
-abbrev pub Common : ℕ → ℕ → ℕ → Type 0
-Common a b r = (k : ℕ) → Has r k ↔ (Has a k × Has b k)
-
 -- ---- the lowest
 
 -- i is the lowest member of w

@@ -3,7 +3,7 @@ ghost use mathlib.Core.Path.{_≡_};
 ghost use Prim.Native.Nat.{ℕ, _+_, _/_, _%_, _^_, _<_, _≤_};
 ghost use Rattle.std.specs.Orderings.{Decides};
 ghost use Rattle.std.specs.Options.{Cases};
-ghost use Rattle.sets.specs.Members.{Has, NoMember, Single, AllBelow, Adds, Drops, Common, Meet, Within, Lowest, size};
+ghost use Rattle.sets.specs.Members.{Has, NoMember, Single, AllBelow, Adds, Drops, Meet, Within, Lowest, LowestCommon, size};
 
 pub(crate) fn single(place: usize) -> u64
     ensures { λ r. ⌜ Single place r ⌝ }
@@ -39,12 +39,6 @@ pub(crate) fn without(word: u64, place: usize) -> u64
     word & !single(place)
 }
 
-pub(crate) fn common(a: u64, b: u64) -> u64
-    ensures { λ r. ⌜ Common a b r ⌝ }
-{
-    a & b
-}
-
 pub(crate) fn meet(a: u64, b: u64) -> bool
     ensures { λ r. ⌜ Decides r (Meet a b) ⌝ }
 {
@@ -78,4 +72,10 @@ pub(crate) fn lowest(word: u64) -> Option<usize>
     } else {
         Some(word.trailing_zeros() as usize)
     }
+}
+
+pub(crate) fn lowest_common(a: u64, b: u64) -> Option<usize>
+    ensures { λ r. ⌜ Cases r (Meet a b → ⊥) (LowestCommon a b) ⌝ }
+{
+    lowest(a & b)
 }

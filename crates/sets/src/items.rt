@@ -110,6 +110,6 @@ impl Bundle {
     pub fn lowest_shared(self, other: Bundle) -> Option<usize>
         ensures { λ r. ⌜ Cases r (Meet (self .word) (other .word) → ⊥) (LowestCommon (self .word) (other .word)) ⌝ }
     {
-        bits::lowest(bits::common(self.word, other.word))
+        bits::lowest_common(self.word, other.word)
     }
 }

@@ -1,8 +1,6 @@
-ghost use mathlib.Core.Path.{_≡_};
 ghost use mathlib.Core.List.{[], _∷_};
-ghost use Rattle.std.specs.declared.result.Result.the-variants.{Ok, Err};
 ghost use Rattle.book.specs.Model.{row as rowOf};
-ghost use Rattle.book.specs.Checks.{Judged, bidderExists, bidStands};
+ghost use Rattle.book.specs.Checks.{Answers, bidderExists, bidStands};
 ghost use Rattle.book.specs.Views.{recorded};
 use crate::ledger::Ledger;
 use crate::refusal::Refusal;
@@ -12,7 +10,7 @@ use crate::row::Row;
 impl Ledger {
     /// The bidder's row.
     pub(crate) fn row(&self, bidder: usize) -> Result<Row, Refusal>
-        ensures { λ r. ⌜ Judged (bidderExists (recorded (now (self .entry))) bidder ∷ []) (λ e. r ≡ Err e) (r ≡ Ok (rowOf (recorded (now (self .entry))) bidder)) ⌝ }
+        ensures { λ r. ⌜ Answers (bidderExists (recorded (now (self .entry))) bidder ∷ []) (rowOf (recorded (now (self .entry))) bidder) r ⌝ }
     {
         if bidder >= self.rows.len() {
             return Err(Refusal::NoSuchBidder);
@@ -22,7 +20,7 @@ impl Ledger {
 
     /// The bidder's row, which stands.
     pub(crate) fn standing_row(&self, bidder: usize) -> Result<Row, Refusal>
-        ensures { λ r. ⌜ Judged (bidderExists (recorded (now (self .entry))) bidder ∷ bidStands (recorded (now (self .entry))) bidder ∷ []) (λ e. r ≡ Err e) (r ≡ Ok (rowOf (recorded (now (self .entry))) bidder)) ⌝ }
+        ensures { λ r. ⌜ Answers (bidderExists (recorded (now (self .entry))) bidder ∷ bidStands (recorded (now (self .entry))) bidder ∷ []) (rowOf (recorded (now (self .entry))) bidder) r ⌝ }
     {
         let row = self.row(bidder)?;
         match row.mark {

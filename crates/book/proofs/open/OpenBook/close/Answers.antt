@@ -1,6 +1,0 @@
-use mathlib.Core.Path.{refl}
-use Rattle.book.proofs.Kept.{closed-within}
-use Rattle.book.proofs.open.OpenBook.close.Needs as need
-
-pub returns : need.returns
-returns c = record { same = refl; limits = closed-within (record { ledger = c .args .self .ledger }) }
