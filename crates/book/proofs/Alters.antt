@@ -1,11 +1,10 @@
 -- One row of a list changed, and the same of a book.
-use mathlib.Core.Path.{_≡_, refl, sym, ap, _∙_}
+use mathlib.Core.Path.{_≡_, refl, ap}
 use mathlib.Core.List.{List, [], _∷_, _++_}
 use mathlib.Core.Logic.{_≢_}
-use Prim.Native.Nat.{ℕ, zero, suc, _<_, _≤_}
+use Prim.Native.Nat.{ℕ, zero, suc, _<_}
 use native.Mathlib.Omega.{arith}
 use lib.ListN.{length, getD, set}
-use Rattle.book.specs.declared.row.Mark.{Mark}
 use Rattle.book.specs.declared.row.Row.{Row}
 use Rattle.book.specs.Model.{blank, priced}
 

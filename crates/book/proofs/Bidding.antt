@@ -1,22 +1,20 @@
 -- Another value in the last bid of a bidder moves only that bidder's value.
 use mathlib.Core.Path.{_≡_, refl, sym, ap, subst, _∙_}
-use mathlib.Core.Bool.{Bool, true, false, cond, _&&_}
+use mathlib.Core.Bool.{true, false, _&&_}
 use mathlib.Core.List.{List, [], _∷_, _++_}
 use mathlib.Core.Logic.{_⊎_, inl, inr, ⊎-elim}
-use Prim.Native.Nat.{ℕ, zero, suc, _+_, _^_, _<_, _≤_}
+use Prim.Native.Nat.{ℕ, _+_, _^_, _<_, _≤_}
 use native.Mathlib.Omega.{arith}
 use lib.Dec.{leb, ltb, eqb}
-use lib.ListN.{length, getD, set}
+use lib.ListN.{length}
 use Rattle.std.proofs.shelf.Lists.{length-set, length-push}
-use Rattle.std.proofs.shelf.Tests.{and-from, and-parts, both-ways, le-leb, ltb-true, cond-true, cond-false, cond-both, cases-bool, cases-eq, false≢true}
+use Rattle.std.proofs.shelf.Tests.{and-from, and-parts, both-ways, le-leb, ltb-true, cond-true, cond-false, cond-both, cases-bool, cases-eq}
 use Rattle.book.specs.declared.call.Call.{Call}
 use Rattle.book.specs.declared.call.Call.the-variants.{Size, Enter, Revise, Withdraw, Show}
-use Rattle.book.specs.declared.row.Mark.{Mark}
-use Rattle.book.specs.declared.row.Row.{Row}
 use Rattle.book.specs.Checks.{next}
-use Rattle.book.specs.Model.{Book, book, fresh, blank, row, priced, withdrawn, withRow, withValue, greatest}
-use Rattle.book.specs.Runs.{isStanding, stands, accepts, step, run, IsFor, Bids, NoBid, LastBid, revalued, bidding, OnlyValueMoves, EachHasBid}
-use Rattle.book.proofs.Alters.{alter, alter-other, alter-twice, alter-early, alter-last, priced-marks}
+use Rattle.book.specs.Model.{Book, book, fresh, row, priced, withdrawn, withValue, greatest}
+use Rattle.book.specs.Runs.{isStanding, stands, accepts, step, run, IsFor, Bids, NoBid, LastBid, revalued, OnlyValueMoves, EachHasBid}
+use Rattle.book.proofs.Alters.{alter-other, alter-twice, alter-early, alter-last, priced-marks}
 
 -- ---- a call on a book with another value for j
 

@@ -2,16 +2,16 @@
 use mathlib.Core.Path.{_≡_, sym, subst}
 use mathlib.Core.List.{List, [], _∷_, _++_}
 use mathlib.Core.Logic.{⊎-elim}
-use Prim.Native.Nat.{ℕ, _<_, _≤_}
+use Prim.Native.Nat.{ℕ, _<_}
 use native.Mathlib.Omega.{arith}
-use lib.ListN.{length, getD}
+use lib.ListN.{length}
 use Rattle.std.proofs.shelf.Lists.{getD-push, getD-append-left, length-push}
 use Rattle.std.proofs.shelf.Tests.{cases-eq}
 use Rattle.sets.proofs.Words.{below-within, none-zero}
 use Rattle.book.specs.declared.closed.ClosedBook.{ClosedBook}
 use Rattle.book.specs.declared.row.Row.{Row}
 use Rattle.book.specs.Limits.{RowWithinLimits, WithinLimits, Kept, EachKept}
-use Rattle.book.specs.Model.{Book, book, blank}
+use Rattle.book.specs.Model.{book, blank}
 use Rattle.book.specs.Views.{closed-view}
 use Rattle.book.proofs.Used.{listed-length}
 

@@ -1,17 +1,17 @@
 -- The checks of a call decide whether it is accepted.
 use mathlib.Core.Path.{_≡_, refl, sym, ap, subst, _∙_}
-use mathlib.Core.Bool.{Bool, true, false, cond, _&&_}
+use mathlib.Core.Bool.{Bool, true, false, cond}
 use mathlib.Core.List.{List, [], _∷_}
-use mathlib.Core.Logic.{_⊎_, inl, inr, ⊎-elim}
-use Prim.Native.Nat.{ℕ, zero, suc, _^_, _<_, _≤_}
+use mathlib.Core.Logic.{inl, inr, ⊎-elim}
+use Prim.Native.Nat.{ℕ, _^_, _<_, _≤_}
 use native.Mathlib.Omega.{arith}
-use lib.Dec.{leb, ltb, eqb}
+use lib.Dec.{leb, ltb}
 use lib.ListN.{length}
 use Rattle.std.specs.declared.result.Result.{Result}
 use Rattle.std.specs.declared.result.Result.the-variants.{Ok, Err}
 use Rattle.std.specs.Results.{mapped}
 use Rattle.std.proofs.shelf.Tests.{and-from, and-left, and-right, le-leb, lt-leb, lt-ltb, le-ltb, eq-eqb, ne-eqb, cond-true, cond-false, cases-lt, both-ways}
-use Rattle.sets.specs.Members.{NoMember, Within}
+use Rattle.sets.specs.Members.{Within}
 use Rattle.sets.proofs.Words.{none-zero, some-pos, below-within, within-below}
 use Rattle.book.specs.declared.call.Answer.{Answer}
 use Rattle.book.specs.declared.call.Call.{Call}

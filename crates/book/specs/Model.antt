@@ -4,7 +4,6 @@ use Prim.Native.Nat.{ℕ}
 use lib.ListN.{length, getD, set}
 use Rattle.sets.specs.Members.{sum-over}
 use Rattle.book.specs.declared.row.Row.{Row}
-use Rattle.book.specs.declared.row.Mark.{Mark}
 use Rattle.book.specs.declared.row.Mark.the-variants.{Standing, Withdrawn}
 
 pub record Book : Type 0 where

@@ -1,12 +1,10 @@
 ghost use mathlib.Core.Path.{_≡_};
 ghost use lib.ListN.{length};
 ghost use Rattle.book.specs.declared.call.Call.the-variants.{Size, Enter, Revise, Withdraw, Show};
-ghost use Rattle.book.specs.Checks.{Serves, answer};
+ghost use Rattle.book.specs.Checks.{Serves};
 ghost use Rattle.book.specs.Limits.{WithinLimits};
 ghost use Rattle.book.specs.Model.{fresh, row};
 ghost use Rattle.book.specs.Views.{view, closed-view};
-use crate::call::Answer;
-use crate::call::Call;
 use crate::closed::ClosedBook;
 use crate::ledger::ITEM_LIMIT;
 use crate::ledger::Ledger;
@@ -105,7 +103,7 @@ impl OpenBook {
         self.ledger.row(bidder)
     }
 
-    /// Ends the bidding: the book that awards are made from.
+    /// Uses the open book up, and gives the closed one that awards are made from.
     pub fn close(self) -> ClosedBook
         ensures same { λ r. ⌜ closed-view r ≡ view self ⌝ }
         ensures limits { λ r. ⌜ WithinLimits (closed-view r) ⌝ }

@@ -9,7 +9,7 @@ use crate::open::OpenBook;
 use crate::refusal::Refusal;
 
 impl OpenBook {
-    /// Makes one call.
+    /// Makes one call, whichever it is.
     pub fn apply(&mut self, call: Call) -> Result<Answer, Refusal>
         ensures served { λ r. ⌜ Serves call (answer call (view (now (self .entry)))) (view (now (self .entry))) r (view (now (self .exit))) ⌝ }
         ensures stepped { λ _. ⌜ view (now (self .exit)) ≡ step call (view (now (self .entry))) ⌝ }
@@ -32,7 +32,7 @@ impl OpenBook {
         }
     }
 
-    /// Makes the calls one after the other; refused ones do nothing.
+    /// Makes the calls one after the other.
     fn make(&mut self, calls: &[Call])
         ensures made { λ _. ⌜ view (now (self .exit)) ≡ run (now (calls .entry)) (view (now (self .entry))) ⌝ }
         ensures checked { λ _. ⌜ AcceptsByChecks ⌝ }
@@ -44,7 +44,7 @@ impl OpenBook {
         }
     }
 
-    /// The book that the calls make of a fresh one.
+    /// The book that the calls make of a fresh one, refused ones doing nothing.
     pub fn from_calls(calls: &[Call]) -> OpenBook
         ensures made { λ r. ⌜ view r ≡ run (now (calls .entry)) fresh ⌝ }
         ensures checked { λ _. ⌜ AcceptsByChecks ⌝ }

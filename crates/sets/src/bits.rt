@@ -1,6 +1,6 @@
 //! What both kinds of set share: the members of a word. A number past 63 is a member of no set.
 ghost use mathlib.Core.Path.{_≡_};
-ghost use Prim.Native.Nat.{ℕ, _+_, _/_, _%_, _^_, _<_, _≤_};
+ghost use Prim.Native.Nat.{_/_, _<_};
 ghost use Rattle.std.specs.Orderings.{Decides};
 ghost use Rattle.std.specs.Options.{Cases};
 ghost use Rattle.sets.specs.Members.{Has, NoMember, Single, AllBelow, Adds, Drops, Meet, Within, Lowest, LowestCommon, size};
