@@ -19,11 +19,12 @@ pub(crate) fn revise(bidder: usize, value: u32) -> Call {
     Call::Revise { bidder, value }
 }
 
-/// A book of 64 rows, the row of bidder j for item j.
+/// A book of one item and 64 rows.
 pub(crate) fn full_book(value: u32) -> Result<OpenBook, Fail> {
     let mut book = OpenBook::new();
+    book.size(1)?;
     for bidder in 0..64 {
-        check_eq(book.enter(Bundle::single(bidder), value), Ok(bidder))?;
+        check_eq(book.enter(Bundle::single(0), value), Ok(bidder))?;
     }
     Ok(book)
 }
@@ -100,6 +101,7 @@ fn entries_in_a_full_book() -> Result<(), Fail> {
         (enter(Bundle::single(0), 1), Err(3)),
         // three checks fail: the first is answered
         (enter(Bundle::empty(), 100_000_001), Err(3)),
+        (enter(Bundle::single(1), 100_000_001), Err(3)),
         (revise(63, 2), DONE),
         (revise(64, 2), Err(7)),
     ];

@@ -57,7 +57,7 @@ fn other_values() -> Result<(), Fail> {
     check_eq(copy.welfare(BidderSet::all_below(64)), 100_000_567)?;
     check_eq(book.welfare(BidderSet::all_below(64)), 576)?;
     let row = Row {
-        bundle: Bundle::single(63),
+        bundle: Bundle::single(0),
         value: 100_000_000,
         mark: Mark::Standing,
     };

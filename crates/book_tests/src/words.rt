@@ -15,7 +15,7 @@ fn members() -> Result<(), Fail> {
     check_eq(bundle.without(1), bundle)?;
     check_eq(bundle.with(64), bundle)?;
     check_eq(Bundle::single(64), Bundle::empty())?;
-    check_eq(Bundle::from_word(0x21), bundle.without(63))
+    check_eq(bundle.without(63).word(), 0x21)
 }
 
 #[test]

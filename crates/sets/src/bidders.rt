@@ -11,13 +11,6 @@ pub struct BidderSet {
 }
 
 impl BidderSet {
-    /// The set whose members are the bits set in `word`.
-    pub fn from_word(word: u64) -> BidderSet
-        ensures { λ r. ⌜ r .word ≡ word ⌝ }
-    {
-        BidderSet { word }
-    }
-
     /// The word whose bit i says whether bidder i is a member.
     pub fn word(self) -> u64
         ensures { λ r. ⌜ r ≡ self .word ⌝ }

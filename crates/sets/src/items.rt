@@ -11,13 +11,6 @@ pub struct Bundle {
 }
 
 impl Bundle {
-    /// The set whose members are the bits set in `word`.
-    pub fn from_word(word: u64) -> Bundle
-        ensures { λ r. ⌜ r .word ≡ word ⌝ }
-    {
-        Bundle { word }
-    }
-
     /// The word whose bit i says whether item i is a member.
     pub fn word(self) -> u64
         ensures { λ r. ⌜ r ≡ self .word ⌝ }

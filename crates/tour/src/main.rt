@@ -73,7 +73,7 @@ fn hold(rt: &impl Print, calls: &[Call]) -> io::Result<OpenBook> {
 fn print_rows(rt: &impl Print, book: &ClosedBook) -> io::Result<()> {
     let items = book.items();
     let rows = book.len();
-    println!(rt, "closed: {items} items, {rows} rows")?;
+    println!(rt, "closed, items: {items}, rows: {rows}")?;
     for bidder in 0..rows {
         print!(rt, "bidder {bidder}: ")?;
         if let Ok(row) = book.show(bidder) {
