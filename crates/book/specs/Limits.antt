@@ -12,6 +12,7 @@ pub record RowWithinLimits (items : ℕ) (x : Row) : Type 0 where
   pub known-items : Within items (x .bundle .word)
   pub priced : x .value ≤ greatest
 
+-- a book that can exist
 pub record WithinLimits (b : Book) : Type 0 where
   pub some-items : 1 ≤ b .items
   pub few-items : b .items ≤ 64
