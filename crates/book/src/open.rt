@@ -90,9 +90,11 @@ impl OpenBook {
     pub fn withdraw(&mut self, bidder: usize) -> Result<(), Refusal>
         ensures { λ r. ⌜ Serves (Withdraw bidder) tt (view (now (self .entry))) r (view (now (self .exit))) ⌝ }
     {
-        let row = self.ledger.standing_row(bidder)?;
-        let mark = Mark::Withdrawn;
-        self.ledger.rows.set(bidder, Row { mark, ..row });
+        let row = Row {
+            mark: Mark::Withdrawn,
+            ..self.ledger.standing_row(bidder)?
+        };
+        self.ledger.rows.set(bidder, row);
         Ok(())
     }
 
