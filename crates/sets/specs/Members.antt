@@ -1,7 +1,7 @@
 -- A set of things numbered from 0 to 63, held as a 64-bit word: thing i is a member exactly if bit i is set.
 use mathlib.Core.Path.{_≡_}
 use mathlib.Core.Logic.{_⊎_, _↔_}
-use mathlib.Core.Bool.{Bool, cond}
+use mathlib.Core.Bool.{Bool, true, cond}
 use lib.Dec.{eqb}
 use Prim.Native.Nat.{ℕ, zero, suc, _+_, _/_, _%_, _^_, _<_}
 
@@ -42,6 +42,17 @@ Adds w i r = (k : ℕ) → Has r k ↔ (Has w k ⊎ ((k ≡ i) × (k < 64)))
 -- the members of w but for i
 abbrev pub Drops : ℕ → ℕ → ℕ → Type 0
 Drops w i r = (k : ℕ) → Has r k ↔ (Has w k × (k ≡ i → ⊥))
+
+-- ---- sets by a test
+
+-- exactly the things below n that pass the test
+abbrev pub Selects : (ℕ → Bool) → ℕ → ℕ → Type 0
+Selects test n r = (k : ℕ) → Has r k ↔ ((k < n) × (test k ≡ true))
+
+-- the word of that set
+unfoldable pub those : (ℕ → Bool) → ℕ → ℕ
+those test zero = 0
+those test (suc n) = those test n + cond (test n) (2 ^ n) 0
 
 -- ---- the lowest
 

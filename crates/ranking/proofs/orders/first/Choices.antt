@@ -1,0 +1,5 @@
+use Rattle.ranking.specs.Orders.{FirstOf}
+use Rattle.ranking.proofs.orders.first.Given as given
+
+abbrev pub Inv-loop-place : given.InvT-loop-place
+Inv-loop-place g l = FirstOf (g .O·Order .before (l .order)) (l .items) (l .place) (l .best)

@@ -1,0 +1,32 @@
+ghost use mathlib.Core.Bool.{Bool, true};
+ghost use mathlib.Core.Path.{_≡_};
+ghost use Rattle.ranking.specs.Rankings.{Entry, Ranks};
+ghost use Rattle.ranking.specs.Views.{entry-of};
+use crate::contenders::Contender;
+use crate::orders::Order;
+
+/// One question: does row `a` come before row `b`?
+pub trait Ranking {
+    ghost before: { Self → Entry → Entry → Bool };
+
+    law ranks: { (ranking : Self) → Ranks (before ranking) };
+
+    fn comes_before(&self, a: &Contender, b: &Contender) -> bool
+        ensures { λ r. ⌜ r ≡ before (now (self .entry)) (entry-of (now (a .entry))) (entry-of (now (b .entry))) ⌝ };
+}
+
+/// A ranking as an order.
+#[derive(Clone, Copy)]
+pub struct Ranked<R> {
+    pub ranking: R,
+}
+
+pub impl<R: Ranking> Order<Contender> for Ranked<R> as RankedOrder {
+    ghost before = { λ o a b. R·Ranking .before (o .ranking) (entry-of a) (entry-of b) ≡ true };
+
+    ghost identity = { λ c. c .number };
+
+    fn comes_before(&self, a: &Contender, b: &Contender) -> bool {
+        self.ranking.comes_before(a, b)
+    }
+}

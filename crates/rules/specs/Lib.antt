@@ -1,0 +1,3 @@
+pub mod Feasible
+pub mod Laws
+pub mod Greedy
