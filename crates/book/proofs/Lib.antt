@@ -1,5 +1,6 @@
 pub mod Alters
 pub mod Bidding
 pub mod Kept
+pub mod Revalued
 pub mod Stepping
 pub mod Used

@@ -41,6 +41,14 @@ impl ClosedBook {
         self.ledger.rows.len()
     }
 
+    /// The rows, in order of entry.
+    pub fn rows(&self) -> &[Row]
+        ensures value { λ r. ⌜ now r ≡ closed-view (now (self .entry)) .rows ⌝ }
+        ensures bound { λ r. ⌜ length (now r) ≤ 64 ⌝ }
+    {
+        self.ledger.rows.as_slice()
+    }
+
     /// The bidder's row.
     pub fn show(&self, bidder: usize) -> Result<Row, Refusal>
         ensures { λ r. ⌜ Answers (bidderExists (closed-view (now (self .entry))) bidder ∷ []) (row (closed-view (now (self .entry))) bidder) r ⌝ }
@@ -53,7 +61,7 @@ impl ClosedBook {
         ensures { λ r. ⌜ r ≡ welfareOf (closed-view (now (self .entry))) (set .word) ⌝ }
     {
         let mut total = 0;
-        for (bidder, row) in self.ledger.rows.as_slice().iter().enumerate() {
+        for (bidder, row) in self.rows().iter().enumerate() {
             if set.has(bidder) {
                 total += u64::from(row.value);
             }

@@ -7,7 +7,6 @@ mod supplied;
 pub use contenders::Contender;
 pub use orders::Order;
 pub use orders::first;
-pub use rankings::Ranked;
 pub use rankings::RankedOrder;
 pub use rankings::Ranking;
 pub use supplied::ByItem;

@@ -15,18 +15,13 @@ pub trait Ranking {
         ensures { λ r. ⌜ r ≡ before (now (self .entry)) (entry-of (now (a .entry))) (entry-of (now (b .entry))) ⌝ };
 }
 
-/// A ranking as an order.
-#[derive(Clone, Copy)]
-pub struct Ranked<R> {
-    pub ranking: R,
-}
-
-pub impl<R: Ranking> Order<Contender> for Ranked<R> as RankedOrder {
-    ghost before = { λ o a b. R·Ranking .before (o .ranking) (entry-of a) (entry-of b) ≡ true };
+/// Every ranking is an order of contenders.
+pub impl<R: Ranking> Order<Contender> for R as RankedOrder {
+    ghost before = { λ o a b. R·Ranking .before o (entry-of a) (entry-of b) ≡ true };
 
     ghost identity = { λ c. c .number };
 
     fn comes_before(&self, a: &Contender, b: &Contender) -> bool {
-        self.ranking.comes_before(a, b)
+        Ranking::comes_before(self, a, b)
     }
 }

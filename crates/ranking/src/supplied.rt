@@ -1,5 +1,5 @@
 ghost use mathlib.Core.Path.{_≡_};
-ghost use Prim.Native.Nat.{_*_};
+ghost use Prim.Native.Nat.{_*_, _≤_};
 ghost use Rattle.ranking.specs.Rankings.{leads as leadsBy, by-value, by-root, by-item};
 use crate::contenders::Contender;
 use crate::rankings::Ranking;
@@ -20,7 +20,7 @@ pub impl Ranking for ByValue as ValueRanking {
     ghost before = { λ _. by-value };
 
     fn comes_before(&self, a: &Contender, b: &Contender) -> bool {
-        leads(u64::from(a.value), u64::from(b.value), a.number, b.number)
+        leads(value(a), value(b), a, b)
     }
 }
 
@@ -28,9 +28,7 @@ pub impl Ranking for ByRoot as RootRanking {
     ghost before = { λ _. by-root };
 
     fn comes_before(&self, a: &Contender, b: &Contender) -> bool {
-        let x = square(a) * b.size as u64;
-        let y = square(b) * a.size as u64;
-        leads(x, y, a.number, b.number)
+        leads(square(a) * size(b), square(b) * size(a), a, b)
     }
 }
 
@@ -38,21 +36,34 @@ pub impl Ranking for ByItem as ItemRanking {
     ghost before = { λ _. by-item };
 
     fn comes_before(&self, a: &Contender, b: &Contender) -> bool {
-        let x = u64::from(a.value) * b.size as u64;
-        let y = u64::from(b.value) * a.size as u64;
-        leads(x, y, a.number, b.number)
+        leads(value(a) * size(b), value(b) * size(a), a, b)
     }
 }
 
-/// Whether `x` is the greater, or the two are equal and `i` is the lower number.
-fn leads(x: u64, y: u64, i: usize, j: usize) -> bool
-    ensures { λ r. ⌜ r ≡ leadsBy x y i j ⌝ }
+/// Whether `x` is the greater, or the two are equal and `a` has the lower number.
+fn leads(x: u64, y: u64, a: &Contender, b: &Contender) -> bool
+    ensures { λ r. ⌜ r ≡ leadsBy x y (now (a .entry) .number) (now (b .entry) .number) ⌝ }
 {
-    x > y || x == y && i < j
+    x > y || x == y && a.number < b.number
+}
+
+fn value(a: &Contender) -> u64
+    ensures same { λ r. ⌜ r ≡ now (a .entry) .value ⌝ }
+    ensures bound { λ r. ⌜ r ≤ 100000000 ⌝ }
+{
+    u64::from(a.value)
+}
+
+fn size(a: &Contender) -> u64
+    ensures same { λ r. ⌜ r ≡ now (a .entry) .size ⌝ }
+    ensures bound { λ r. ⌜ r ≤ 64 ⌝ }
+{
+    a.size as u64
 }
 
 fn square(a: &Contender) -> u64
-    ensures { λ r. ⌜ r ≡ now (a .entry) .value * now (a .entry) .value ⌝ }
+    ensures same { λ r. ⌜ r ≡ now (a .entry) .value * now (a .entry) .value ⌝ }
+    ensures bound { λ r. ⌜ r ≤ 10000000000000000 ⌝ }
 {
-    u64::from(a.value) * u64::from(a.value)
+    value(a) * value(a)
 }

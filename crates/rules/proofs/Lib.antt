@@ -1,1 +1,10 @@
 pub mod Seen
+pub mod Feasibility
+pub mod Turns
+mod Raising
+mod GreedyLaws
+pub mod GreedyExists
+mod Queueing
+mod Taken
+mod Midway
+mod Serving

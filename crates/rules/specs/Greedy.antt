@@ -9,7 +9,7 @@ use Rattle.book.specs.Model.{Book, row}
 use Rattle.book.specs.Runs.{stands}
 use Rattle.ranking.specs.Rankings.{Entry, entry}
 use Rattle.rules.specs.Feasible.{FitsBeside, fits-beside}
-use Rattle.rules.specs.Laws.{Asked, Rule, TakesPart}
+use Rattle.rules.specs.Laws.{Asked, Lawful, Rule, TakesPart}
 
 -- a ranking's test
 abbrev pub Test : Type 0
@@ -43,10 +43,9 @@ greedy before b admitted = repeat (length (b .rows)) (turn before b admitted)
 
 -- ---- what holds of it, whatever the ranking
 
--- it is greedy in every book that can exist
-abbrev pub IsGreedy : Test → Type 0
-IsGreedy before = (b : Book) (w : ℕ) → Asked b w → Greedy before b w (greedy before b w)
-
--- no two sets are
-abbrev pub OneGreedy : Test → Type 0
-OneGreedy before = (b : Book) (w x y : ℕ) → Asked b w → Greedy before b w x → Greedy before b w y → x ≡ y
+pub record GreedyTheorems (before : Test) : Type 0 where
+  -- in every book that can exist its winners are greedy
+  pub found : (b : Book) (w : ℕ) → Asked b w → Greedy before b w (greedy before b w)
+  -- and no other set is
+  pub one : (b : Book) (w x y : ℕ) → Asked b w → Greedy before b w x → Greedy before b w y → x ≡ y
+  pub lawful : Lawful (greedy before)

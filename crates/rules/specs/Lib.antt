@@ -1,3 +1,5 @@
 pub mod Feasible
 pub mod Laws
 pub mod Greedy
+pub mod Allotments
+pub mod Queues

@@ -1,2 +1,10 @@
 //! Allocation rules: from a closed book and a set of admitted bidders to the winners.
-mod theorems;
+mod allotment;
+mod by_ranking;
+mod interface;
+mod queue;
+
+pub use by_ranking::Greedy;
+pub use by_ranking::GreedyClone;
+pub use by_ranking::GreedyRule;
+pub use interface::AllocationRule;

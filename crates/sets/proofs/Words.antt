@@ -17,7 +17,7 @@ use Rattle.std.specs.Options.{Cases}
 use Rattle.std.specs.Orderings.{Decides}
 use Rattle.std.proofs.shelf.Bits.{shl-shr, div-below, mod-below}
 use Rattle.std.proofs.shelf.Tests.{cases-order, cases-eq, cases-lt, eqb-true, eqb-false, eq-eqb, ne-eqb, not-true, not-from-false, cond-true, cond-false}
-use Rattle.sets.specs.Members.{Has, has, NoMember, Single, AllBelow, Adds, Drops, Meet, Within, Lowest, LowestCommon, sum-over, size}
+use Rattle.sets.specs.Members.{Has, has, NoMember, Single, AllBelow, Adds, Drops, Joins, Meet, Within, Lowest, LowestCommon, sum-over, size}
 
 -- ---- single bits
 
@@ -159,11 +159,18 @@ decides-within n w = (
 common-and : (a b k : ℕ) → Has (bitAnd a b) k ↔ (Has a k × Has b k)
 common-and a b k = let e = bit-and a b k in ((λ h. (omega arith, omega arith)), (λ h. omega arith))
 
+pub joins-or : (a b : ℕ) → Joins a b (bitOr a b)
+joins-or a b k =
+    let e = bit-or a b k in (
+      (λ h. ⊎-elim (λ (p : Has a k). inl p) (λ ne. inr (omega arith)) (cases-eq (a / 2 ^ k % 2) 1)),
+      ⊎-elim (λ (p : Has a k). omega arith) (λ (p : Has b k). omega arith),
+    )
+
 pub adds-or : (w i s : ℕ) → Single i s → Adds w i (bitOr w s)
 adds-or w i s one k =
-    let e = bit-or w s k in (
-      (λ h. ⊎-elim (λ (p : Has w k). inl p) (λ ne. inr (one k .0 (omega arith))) (cases-eq (w / 2 ^ k % 2) 1)),
-      (λ h. ⊎-elim (λ (p : Has w k). omega arith) (λ p. let q = one k .1 p in omega arith) h),
+    let either = joins-or w s k in (
+      (λ h. ⊎-elim inl (λ p. inr (one k .0 p)) (either .0 h)),
+      (λ h. either .1 (⊎-elim inl (λ p. inr (one k .1 p)) h)),
     )
 
 pub drops-and : (w i s : ℕ) → w < 2 ^ 64 → s < 2 ^ 64 → Single i s → Drops w i (bitAnd w (2 ^ 64 - 1 - s))

@@ -43,6 +43,10 @@ Adds w i r = (k : ℕ) → Has r k ↔ (Has w k ⊎ ((k ≡ i) × (k < 64)))
 abbrev pub Drops : ℕ → ℕ → ℕ → Type 0
 Drops w i r = (k : ℕ) → Has r k ↔ (Has w k × (k ≡ i → ⊥))
 
+-- the members of a and of b
+abbrev pub Joins : ℕ → ℕ → ℕ → Type 0
+Joins a b r = (k : ℕ) → Has r k ↔ (Has a k ⊎ Has b k)
+
 -- ---- sets by a test
 
 -- exactly the things below n that pass the test

@@ -3,7 +3,7 @@ ghost use mathlib.Core.Path.{_≡_};
 ghost use Prim.Native.Nat.{_/_, _<_};
 ghost use Rattle.std.specs.Orderings.{Decides};
 ghost use Rattle.std.specs.Options.{Cases};
-ghost use Rattle.sets.specs.Members.{Has, NoMember, Single, AllBelow, Adds, Drops, Meet, Within, Lowest, LowestCommon, size};
+ghost use Rattle.sets.specs.Members.{Has, NoMember, Single, AllBelow, Adds, Drops, Joins, Meet, Within, Lowest, LowestCommon, size};
 
 pub(crate) fn single(place: usize) -> u64
     ensures { λ r. ⌜ Single place r ⌝ }
@@ -31,6 +31,12 @@ pub(crate) fn with(word: u64, place: usize) -> u64
     ensures { λ r. ⌜ Adds word place r ⌝ }
 {
     word | single(place)
+}
+
+pub(crate) fn join(a: u64, b: u64) -> u64
+    ensures { λ r. ⌜ Joins a b r ⌝ }
+{
+    a | b
 }
 
 pub(crate) fn without(word: u64, place: usize) -> u64

@@ -1,7 +1,7 @@
 ghost use mathlib.Core.Path.{_≡_};
 ghost use Rattle.std.specs.Options.{Cases};
 ghost use Rattle.std.specs.Orderings.{Decides};
-ghost use Rattle.sets.specs.Members.{Has, NoMember, Single, AllBelow, Adds, Drops, Within, Lowest, size, Meet, LowestCommon};
+ghost use Rattle.sets.specs.Members.{Has, NoMember, Single, AllBelow, Adds, Drops, Joins, Within, Lowest, size, Meet, LowestCommon};
 use crate::bits;
 
 /// A set of items.
@@ -63,6 +63,15 @@ impl Bundle {
     {
         Bundle {
             word: bits::without(self.word, item),
+        }
+    }
+
+    /// This set and the other.
+    pub fn union(self, other: Bundle) -> Bundle
+        ensures { λ r. ⌜ Joins (self .word) (other .word) (r .word) ⌝ }
+    {
+        Bundle {
+            word: bits::join(self.word, other.word),
         }
     }
 

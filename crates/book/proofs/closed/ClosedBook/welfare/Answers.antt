@@ -14,6 +14,6 @@ loop-bidder-again c =
     let value : ℕ → ℕ = λ j. row b j .value in
     let more = sum-with (c .args .set .word) value (c .loop-bidder .bidder) in
     let same = sum-without (c .args .set .word) value (c .loop-bidder .bidder) in
-    let n = ap length (c .as-slice-row-items .ensures .value) in
+    let n = ap length (c .rows-row-items .ensures .value) in
     let low = c .args .self .now .ledger .kept (c .loop-bidder .bidder) (omega arith) in
     search needs

@@ -8,7 +8,7 @@ possible c = record { priced = c .priced; some-item = c .nonempty; few-items = c
 
 pub ordered-law : need.ordered-law
 ordered-law g order =
-    let ranks = g .R·Ranking·met .ranks (order .ranking) in
+    let ranks = g .R·Ranking·met .ranks order in
     record {
       irreflexive = λ a. ranks .irreflexive (entry-of a) (possible a);
       transitive = λ a b c. ranks .transitive (entry-of a) (entry-of b) (entry-of c) (possible a) (possible b) (possible c);

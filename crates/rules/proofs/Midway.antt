@@ -1,0 +1,129 @@
+-- Greedy half way: who has had its turn is settled, and who still waits comes after all of them.
+use mathlib.Core.Bool.{true}
+use mathlib.Core.Logic.{_↔_, _⊎_, inl, inr, ⊎-elim}
+use mathlib.Core.Path.{_≡_, refl, sym, subst}
+use Prim.Native.Nat.{ℕ, _<_}
+use native.Mathlib.Omega.{arith}
+use lib.ListN.{length}
+use Rattle.std.proofs.shelf.Tests.{and-from, and-parts, cases-eq, eqb-true, eq-eqb}
+use Rattle.sets.specs.Members.{Has, has, NoMember, Adds}
+use Rattle.book.specs.Limits.{WithinLimits}
+use Rattle.book.specs.Model.{Book}
+use Rattle.ranking.specs.Rankings.{Ranks}
+use Rattle.rules.specs.Feasible.{FitsBeside}
+use Rattle.rules.specs.Greedy.{Test, Greedy, ahead}
+use Rattle.rules.specs.Laws.{TakesPart}
+use Rattle.rules.proofs.Feasibility.{Inside, beside-part}
+use Rattle.rules.proofs.Turns.{Before, never-self, one-way}
+
+pub record Midway (before : Test) (b : Book) (w : ℕ) (Waiting : ℕ → Type 0) (winners : ℕ) : Type 0 where
+  pub part : (j : ℕ) → Waiting j → TakesPart b w j
+  pub later : (j k : ℕ) → Waiting j → TakesPart b w k → (Waiting k → ⊥) → Before before b k j
+  pub losing : (j : ℕ) → Waiting j → Has winners j → ⊥
+  pub settled : (j : ℕ) → (Waiting j → ⊥) → Has winners j ↔ (TakesPart b w j × FitsBeside b (ahead before b winners j) j)
+
+module _ (before : Test) (b : Book) (w : ℕ) where
+  pub midway-start : (Waiting : ℕ → Type 0) (winners : ℕ) → ((j : ℕ) → Waiting j ↔ TakesPart b w j) → NoMember winners →
+      Midway before b w Waiting winners
+  midway-start Waiting winners all none = record {
+    part = λ j. all j .0;
+    later = λ j k h t gone. absurd (gone (all k .1 t));
+    losing = λ j h. none j;
+    settled = λ j gone. ((λ h. absurd (none j h)), (λ h. absurd (gone (all j .1 (h .0)))));
+  }
+
+  pub midway-end : (Waiting : ℕ → Type 0) (winners : ℕ) → Midway before b w Waiting winners → ((j : ℕ) → Waiting j → ⊥) → Greedy before b w winners
+  midway-end Waiting winners mid nobody j = mid .settled j (nobody j)
+
+  module _ (ranks : Ranks before) (limits : WithinLimits b) (Waiting Rest : ℕ → Type 0) (winners j : ℕ) (mid : Midway before b w Waiting winners)
+      (waits : Waiting j) (first : (k : ℕ) → Waiting k → (k ≡ j → ⊥) → Before before b j k) (rest : (k : ℕ) → Rest k ↔ (Waiting k × (k ≡ j → ⊥))) where
+    had-turn : (k : ℕ) → (Rest k → ⊥) → (k ≡ j → ⊥) → Waiting k → ⊥
+    had-turn k gone ne h = gone (rest k .1 (h, ne))
+
+    part-rest : (k : ℕ) → Rest k → TakesPart b w k
+    part-rest k h = mid .part k (rest k .0 h .0)
+
+    later-rest : (i k : ℕ) → Rest i → TakesPart b w k → (Rest k → ⊥) → Before before b k i
+    later-rest i k h t gone =
+        let i-rest = rest i .0 h in
+        ⊎-elim (λ (e : k ≡ j). subst (λ m. Before before b m i) (sym e) (first i (i-rest .0) (i-rest .1)))
+        (λ ne. mid .later i k (i-rest .0) t (had-turn k gone ne)) (cases-eq k j)
+
+    exists : (k : ℕ) → TakesPart b w k → k < length (b .rows)
+    exists k t = t .exists
+
+    -- the winners so far come before j
+    winner-first : (k : ℕ) → Has winners k → Before before b k j
+    winner-first k h = mid .later j k waits (mid .settled k (λ wk. mid .losing k wk h) .0 h .0) (λ wk. mid .losing k wk h)
+
+    -- j does not fit beside them
+    pub midway-skip : (FitsBeside b (has winners) j → ⊥) → Midway before b w Rest winners
+    midway-skip clash = record {
+      part = part-rest;
+      later = later-rest;
+      losing = λ k h. mid .losing k (rest k .0 h .0);
+      settled = λ k gone.
+          ⊎-elim
+          (λ (e : k ≡ j). subst (λ m. Has winners m ↔ (TakesPart b w m × FitsBeside b (ahead before b winners m) m)) (sym e) (
+            (λ h. absurd (mid .losing j waits h)),
+            (λ h. absurd (clash (beside-part b (has winners) (ahead before b winners j) j all-first (h .1)))),
+          ))
+          (λ ne. mid .settled k (had-turn k gone ne)) (cases-eq k j);
+    }
+      where
+        all-first : Inside (has winners) (ahead before b winners j)
+        all-first k h = and-from _ _ h (winner-first k (eqb-true _ _ h))
+
+    -- j fits, and wins
+    module _ (fits : FitsBeside b (has winners) j) (more : ℕ) (adds : Adds winners j more) (low : j < 64) where
+      j-exists : j < length (b .rows)
+      j-exists = mid .part j waits .exists
+
+      more-cases : (k : ℕ) → has more k ≡ true → (has winners k ≡ true) ⊎ (k ≡ j)
+      more-cases k h = ⊎-elim (λ old. inl (eq-eqb _ _ old)) (λ new. inr (new .0)) (adds k .0 (eqb-true _ _ h))
+
+      old-more : (k : ℕ) → Has winners k → Has more k
+      old-more k h = adds k .1 (inl h)
+
+      more-old : (k : ℕ) → (k ≡ j → ⊥) → Has more k → Has winners k
+      more-old k ne h = ⊎-elim (λ old. old) (λ new. absurd (ne (new .0))) (adds k .0 h)
+
+      -- those ahead of j are the winners so far
+      ahead-own : Inside (ahead before b more j) (has winners)
+      ahead-own k h =
+          let parts = and-parts _ _ h in
+          ⊎-elim (λ old. old) (λ (e : k ≡ j). absurd (never-self before ranks b limits j j-exists (subst (λ m. Before before b m j) e (parts .1))))
+          (more-cases k (parts .0))
+
+      -- those ahead of one who had its turn are the same as before
+      ahead-less : (k : ℕ) → TakesPart b w k → (Waiting k → ⊥) → Inside (ahead before b more k) (ahead before b winners k)
+      ahead-less k t gone m h =
+          let parts = and-parts _ _ h in
+          ⊎-elim (λ old. and-from _ _ old (parts .1))
+          (λ (e : m ≡ j).
+          absurd (one-way before ranks b limits j k j-exists (t .exists) (subst (λ i. Before before b i k) e (parts .1)) (mid .later j k waits t gone)))
+          (more-cases m (parts .0))
+
+      ahead-more : (k : ℕ) → Inside (ahead before b winners k) (ahead before b more k)
+      ahead-more k m h = let parts = and-parts _ _ h in and-from _ _ (eq-eqb _ _ (old-more m (eqb-true _ _ (parts .0)))) (parts .1)
+
+      pub midway-take : Midway before b w Rest more
+      midway-take = record {
+        part = part-rest;
+        later = later-rest;
+        losing = λ k h won. let k-rest = rest k .0 h in mid .losing k (k-rest .0) (more-old k (k-rest .1) won);
+        settled = λ k gone.
+            ⊎-elim
+            (λ (e : k ≡ j). subst (λ m. Has more m ↔ (TakesPart b w m × FitsBeside b (ahead before b more m) m)) (sym e) (
+              (λ h. (mid .part j waits, beside-part b (ahead before b more j) (has winners) j ahead-own fits)),
+              (λ h. adds j .1 (inr (refl, low))),
+            ))
+            (λ ne.
+            let gone-k = had-turn k gone ne in
+            let old = mid .settled k gone-k in (
+              (λ h.
+                  let was = old .0 (more-old k ne h) in
+                  (was .0, beside-part b (ahead before b more k) (ahead before b winners k) k (ahead-less k (was .0) gone-k) (was .1))),
+              (λ h. old-more k (old .1 (h .0, beside-part b (ahead before b winners k) (ahead before b more k) k (ahead-more k) (h .1)))),
+            )) (cases-eq k j);
+      }

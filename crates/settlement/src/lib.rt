@@ -1,0 +1,4 @@
+//! Who wins a round.
+mod awards;
+
+pub use awards::award;
