@@ -69,9 +69,9 @@ module _ (before : Test) (b : Book) (w : ℕ) where
         let earlier : (k : ℕ) → k < length (b .rows) → Before before b k j → Has (after r) k ↔ Has (after (suc r)) k =
         λ k lk first. settled ranks r k lk (let lt = rank-lt before ranks b limits k j lk lj first in omega arith) in (
           follows before b w (after r) (after (suc r)) (after (suc r)) (after (suc (suc r))) j (after-chosen r) (after-chosen (suc r))
-          (λ k hk first. earlier k (after-within (suc r) k hk) first .1 hk),
+              (λ k hk first. earlier k (after-within (suc r) k hk) first .1 hk),
           follows before b w (after (suc r)) (after r) (after (suc (suc r))) (after (suc r)) j (after-chosen (suc r)) (after-chosen r)
-          (λ k hk first. earlier k (after-within r k hk) first .0 hk),
+              (λ k hk first. earlier k (after-within r k hk) first .0 hk),
         )
 
 is-greedy : (before : Test) → Ranks before → (b : Book) (w : ℕ) → Asked b w → Greedy before b w (greedy before b w)

@@ -108,9 +108,9 @@ module _ (before : Test) (ranks : Ranks before) where
   still-greedy b c w x part beside fits greedy no-fewer k =
       let there = ahead before c x k in (
         (λ won. (
-            part k .0 (greedy k .0 won .0),
-            beside-own c there (has x) k (λ m h. eq-eqb _ _ (ahead-parts before c x k m h .0)) fits (eq-eqb _ _ won),
-          )),
+          part k .0 (greedy k .0 won .0),
+          beside-own c there (has x) k (λ m h. eq-eqb _ _ (ahead-parts before c x k m h .0)) fits (eq-eqb _ _ won),
+        )),
         (λ (takes, fit).
             let took = part k .1 takes in
             ⊎-elim (λ won. won)
@@ -135,9 +135,11 @@ module _ (before : Test) (ranks : Ranks before) where
         let limits′ = revalued-within j v b limits (raises .priced) in
         still-greedy (withValue j v b) b w x part
         (λ s k. beside-revalued j v b s k .1) (fits-revalued j v b (has x) .0 (greedy-fits (withValue j v b) w x limits′ greedy)) greedy
-        (λ k takes. inr (ahead-inside before (withValue j v b) b x x k (λ m hm first.
-        (hm, was-before before ranks b limits j v raises m k (part m .0 (greedy m .0 hm .0) .exists) (part k .0 takes .exists)
-        (λ e. lost (subst (Has x) e hm)) first))))
+        (λ k takes. inr (ahead-inside before (withValue j v b) b x x k (λ m hm first. (
+          hm,
+          was-before before ranks b limits j v raises m k (part m .0 (greedy m .0 hm .0) .exists) (part k .0 takes .exists)
+              (λ e. lost (subst (Has x) e hm)) first,
+        ))))
 
   -- ---- the laws
 

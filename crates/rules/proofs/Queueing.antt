@@ -119,12 +119,15 @@ module _ (xs ys : List Contender) (p : ℕ) (x : Contender) (removed : Removes x
   source q h =
       let long = removed .shorter in
       ⊎-elim
-      (λ (e : q ≡ p). (length ys, record {
-        below = omega arith;
-        other = λ last. omega arith;
-        same = λ d. ap (λ i. getD ys i d) e ∙ removed .moved d (subst (λ i. i < length ys) e h);
-        place = inr (e, refl);
-      }))
+      (λ (e : q ≡ p). (
+        length ys,
+        record {
+          below = omega arith;
+          other = λ last. omega arith;
+          same = λ d. ap (λ i. getD ys i d) e ∙ removed .moved d (subst (λ i. i < length ys) e h);
+          place = inr (e, refl);
+        },
+      ))
       (λ ne. (q, record { below = omega arith; other = ne; same = λ d. removed .others q d h ne; place = inl refl })) (cases-eq q p)
 
   number : Contender → ℕ

@@ -98,7 +98,9 @@ module _ (before : Test) (b : Book) (w : ℕ) where
       where
         j : ℕ
         j = x .number
+
         winners : ℕ
         winners = a .winners .word
+
         taken : ℕ
         taken = a .taken .word

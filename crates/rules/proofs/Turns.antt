@@ -144,9 +144,12 @@ module _ (before : Test) (ranks : Ranks before) (b : Book) (limits : WithinLimit
       let under = last .inside in
       ⊎-elim
       (λ (first : Before before b l n).
-      inr (n, last-new before b s n yea (λ k lk h.
-      ⊎-elim (λ (e : k ≡ l). subst (λ i. Before before b i n) (sym e) first)
-      (λ earlier. onward k l n (omega arith) (omega arith) (omega arith) earlier first) (last .others k lk h))))
+      inr (
+        n,
+        last-new before b s n yea (λ k lk h.
+            ⊎-elim (λ (e : k ≡ l). subst (λ i. Before before b i n) (sym e) first)
+            (λ earlier. onward k l n (omega arith) (omega arith) (omega arith) earlier first) (last .others k lk h)),
+      ))
       (λ second. inr (l, last-stays before b s n l last (λ _. second)))
       (either l n (omega arith) (omega arith) (λ e. omega arith))) below)
       (λ (nay : s n ≡ false).

@@ -1,10 +1,10 @@
 ghost use mathlib.Core.Path.{_≡_};
 ghost use Rattle.book.specs.Views.{closed-view};
 ghost use Rattle.rules.specs.Greedy.{Greedy as ByTurns, greedy, GreedyTheorems};
-use book::ClosedBook;
 use crate::allotment::Allotment;
 use crate::interface::AllocationRule;
 use crate::queue::Queue;
+use book::ClosedBook;
 use ranking::RankedOrder;
 use ranking::Ranking;
 use ranking::first;

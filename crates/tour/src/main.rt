@@ -1,4 +1,5 @@
-//! A round of bidding over a small book: each call is printed with what it answered, then the rows of the closed book.
+//! A round of bidding over a small book: each call is printed with what it answered, then the rows of the closed book, then the winners
+//! under each ranking.
 use book::Answer;
 use book::Call;
 use book::ClosedBook;
@@ -7,8 +8,18 @@ use book::OpenBook;
 use book::Refusal;
 use book::RefusalDebug;
 use book::Row;
+use ranking::ByItem;
+use ranking::ByRoot;
+use ranking::ByValue;
+use ranking::ItemRanking;
+use ranking::RootRanking;
+use ranking::ValueRanking;
+use rules::AllocationRule;
+use rules::Greedy;
+use rules::GreedyRule;
 use sets::BidderSet;
 use sets::Bundle;
+use settlement::award;
 use std::io;
 
 fn print_bundle(rt: &impl Print, bundle: Bundle) -> io::Result<()> {
@@ -116,11 +127,32 @@ fn small_round() -> [Call; 16] {
     ]
 }
 
+fn print_award<Rule: AllocationRule>(
+    rt: &impl Print,
+    rule: &Rule,
+    book: &ClosedBook,
+) -> io::Result<()> {
+    let (winners, welfare) = award(rule, book);
+    print!(rt, "winners")?;
+    for bidder in 0..book.len() {
+        if winners.has(bidder) {
+            print!(rt, " {bidder}")?;
+        }
+    }
+    println!(rt, ", welfare {welfare}")
+}
+
 fn small_book(rt: &impl Print) -> io::Result<()> {
     let book = hold(rt, &small_round())?.close();
     print_rows(rt, &book)?;
     let welfare = book.welfare(BidderSet::single(1).with(2));
-    println!(rt, "welfare of bidders 1 and 2: {welfare}")
+    println!(rt, "welfare of bidders 1 and 2: {welfare}")?;
+    print!(rt, "VALUE: ")?;
+    print_award(rt, &Greedy { ranking: ByValue }, &book)?;
+    print!(rt, "ROOT: ")?;
+    print_award(rt, &Greedy { ranking: ByRoot }, &book)?;
+    print!(rt, "ITEM: ")?;
+    print_award(rt, &Greedy { ranking: ByItem }, &book)
 }
 
 /// The same calls with another value in the last bid of bidder 2: only its value moves.

@@ -9,12 +9,12 @@ ghost use Rattle.ranking.specs.Views.{entry-of};
 ghost use Rattle.rules.specs.Greedy.{seen};
 ghost use Rattle.rules.specs.Laws.{TakesPart};
 ghost use Rattle.rules.specs.Queues.{queued, Queued, Removes};
+use crate::queue::Queue;
 use book::ClosedBook;
 use book::Mark;
 use book::MarkPartialEq;
 use book::ROW_LIMIT;
 use book::Row;
-use crate::queue::Queue;
 use ranking::Contender;
 use sets::BidderSet;
 
