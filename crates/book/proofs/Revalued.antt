@@ -7,7 +7,7 @@ use lib.ListN.{length}
 use Rattle.std.proofs.shelf.Lists.{length-set, getD-set-same, getD-set-other, set-past}
 use Rattle.std.proofs.shelf.Tests.{cases-eq, cases-lt}
 use Rattle.sets.specs.Members.{Has, sum-over}
-use Rattle.sets.proofs.Selected.{sum-le}
+use Rattle.sets.proofs.Sums.{sum-le}
 use Rattle.book.specs.declared.row.Row.{Row}
 use Rattle.book.specs.Limits.{RowWithinLimits, WithinLimits}
 use Rattle.book.specs.Model.{Book, book, row, blank, priced, withValue, welfare, greatest}

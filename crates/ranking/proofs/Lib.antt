@@ -1,2 +1,4 @@
 mod Crossed
 mod Scans
+pub mod RankLaws
+pub mod Seen

@@ -3,7 +3,7 @@ use mathlib.Core.Path.{_≡_}
 use mathlib.Core.Logic.{_⊎_}
 use mathlib.Core.List.{List}
 use Prim.Native.Nat.{ℕ, _<_}
-use lib.ListN.{length, getD}
+use lib.ListN.{getD}
 
 pub record StrictOrder {T : Type 0} (identity : T → ℕ) (before : T → T → Type 0) : Type 0 where
   pub irreflexive : (a : T) → before a a → ⊥

@@ -21,19 +21,23 @@ pub record Possible (a : Entry) : Type 0 where
   pub some-item : 1 ≤ a .size
   pub few-items : a .size ≤ 64
 
-abbrev pub worth : ℕ → Entry → Entry
-worth v a = entry v (a .size) (a .number)
+-- the same row with v as its value
+abbrev pub valued : ℕ → Entry → Entry
+valued v a = entry v (a .size) (a .number)
+
+-- whether the first of two rows comes before the second
+abbrev pub RowOrder : Type 0
+RowOrder = Entry → Entry → Bool
 
 -- ---- the laws, for all rows that can exist
 
--- `before a b` says whether a comes before b
-pub record Ranks (before : Entry → Entry → Bool) : Type 0 where
+pub record Ranks (before : RowOrder) : Type 0 where
   pub irreflexive : (a : Entry) → Possible a → before a a ≡ true → ⊥
   pub transitive : (a b c : Entry) → Possible a → Possible b → Possible c → before a b ≡ true → before b c ≡ true → before a c ≡ true
-  -- of two rows with different numbers, one comes before the other
+  -- of two rows with different numbers one comes before the other; by the laws above, only one
   pub total : (a b : Entry) → Possible a → Possible b → (a .number ≡ b .number → ⊥) → (before a b ≡ true) ⊎ (before b a ≡ true)
   -- who comes before another still does with a greater value
-  pub raised : (a b : Entry) (v : ℕ) → Possible a → Possible b → a .value ≤ v → v ≤ greatest → before a b ≡ true → before (worth v a) b ≡ true
+  pub raised : (a b : Entry) (v : ℕ) → Possible a → Possible b → a .value ≤ v → v ≤ greatest → before a b ≡ true → before (valued v a) b ≡ true
 
 -- ---- the rankings supplied; equals go by lower row number
 
@@ -41,13 +45,13 @@ pub record Ranks (before : Entry → Entry → Bool) : Type 0 where
 abbrev pub leads : ℕ → ℕ → ℕ → ℕ → Bool
 leads x y i j = ltb y x || (eqb x y && ltb i j)
 
-abbrev pub by-value : Entry → Entry → Bool
+abbrev pub by-value : RowOrder
 by-value a b = leads (a .value) (b .value) (a .number) (b .number)
 
 -- value over the square root of the size, compared by squares and without division
-abbrev pub by-root : Entry → Entry → Bool
+abbrev pub by-root : RowOrder
 by-root a b = leads (a .value * a .value * b .size) (b .value * b .value * a .size) (a .number) (b .number)
 
 -- value per item, compared without division
-abbrev pub by-item : Entry → Entry → Bool
+abbrev pub by-item : RowOrder
 by-item a b = leads (a .value * b .size) (b .value * a .size) (a .number) (b .number)

@@ -1,13 +1,13 @@
-ghost use mathlib.Core.Bool.{Bool, true};
+ghost use mathlib.Core.Bool.{true};
 ghost use mathlib.Core.Path.{_≡_};
-ghost use Rattle.ranking.specs.Rankings.{Entry, Ranks};
+ghost use Rattle.ranking.specs.Rankings.{RowOrder, Ranks};
 ghost use Rattle.ranking.specs.Views.{entry-of};
 use crate::contenders::Contender;
 use crate::orders::Order;
 
 /// One question: does row `a` come before row `b`?
 pub trait Ranking {
-    ghost before: { Self → Entry → Entry → Bool };
+    ghost before: { Self → RowOrder };
 
     law ranks: { (ranking : Self) → Ranks (before ranking) };
 

@@ -15,9 +15,9 @@ use Rattle.book.specs.declared.row.Mark.the-variants.{Standing, Withdrawn}
 use Rattle.book.specs.Limits.{WithinLimits}
 use Rattle.book.specs.Model.{Book, row}
 use Rattle.book.specs.Runs.{isStanding, stands}
-use Rattle.ranking.specs.Rankings.{Ranks}
+use Rattle.ranking.specs.Rankings.{RowOrder, Ranks}
 use Rattle.rules.specs.Feasible.{fits-beside}
-use Rattle.rules.specs.Greedy.{Test, ahead, Greedy, turn, repeat, greedy, GreedyTheorems}
+use Rattle.rules.specs.Greedy.{ahead, IsGreedy, turn, repeat, greedy, GreedyTheorems}
 use Rattle.rules.proofs.Feasibility.{decides-beside}
 use Rattle.rules.specs.Laws.{Asked}
 use Rattle.rules.proofs.GreedyLaws.{Chosen, ahead-parts, follows, one-greedy, greedy-lawful}
@@ -34,7 +34,7 @@ decides-stands b j =
       (λ h. and-from _ _ (lt-ltb j (length (b .rows)) (h .0)) (mark .1 (h .1))),
     )
 
-module _ (before : Test) (b : Book) (w : ℕ) where
+module _ (before : RowOrder) (b : Book) (w : ℕ) where
   -- the word after r turns
   abbrev after : ℕ → ℕ
   after r = repeat r (turn before b w)
@@ -74,7 +74,7 @@ module _ (before : Test) (b : Book) (w : ℕ) where
               (λ k hk first. earlier k (after-within r k hk) first .0 hk),
         )
 
-is-greedy : (before : Test) → Ranks before → (b : Book) (w : ℕ) → Asked b w → Greedy before b w (greedy before b w)
+is-greedy : (before : RowOrder) → Ranks before → (b : Book) (w : ℕ) → Asked b w → IsGreedy before b w (greedy before b w)
 unfolding greedy
 is-greedy before ranks b w asked j =
     let n = length (b .rows) in
@@ -85,7 +85,7 @@ is-greedy before ranks b w asked j =
       (λ h. same (h .0 .exists) .1 (chosen .1 h)),
     )
 
-pub greedy-theorems : (before : Test) → Ranks before → GreedyTheorems before
+pub greedy-theorems : (before : RowOrder) → Ranks before → GreedyTheorems before
 greedy-theorems before ranks = record {
   found = is-greedy before ranks;
   one = one-greedy before ranks;

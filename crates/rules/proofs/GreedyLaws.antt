@@ -11,9 +11,9 @@ use Rattle.sets.proofs.Words.{same-words, within-below}
 use Rattle.book.specs.Limits.{WithinLimits}
 use Rattle.book.specs.Model.{Book, withValue, welfare}
 use Rattle.book.proofs.Revalued.{revalued-within, welfare-without, welfare-raised}
-use Rattle.ranking.specs.Rankings.{Ranks}
+use Rattle.ranking.specs.Rankings.{RowOrder, Ranks}
 use Rattle.rules.specs.Feasible.{Fits, FitsBeside}
-use Rattle.rules.specs.Greedy.{Test, ahead, Greedy}
+use Rattle.rules.specs.Greedy.{ahead, IsGreedy}
 use Rattle.rules.specs.Laws.{Rule, TakesPart, Asked, Raises, Lawful}
 use Rattle.rules.proofs.Feasibility.{Inside, fits-none, fits-with, beside-part, beside-own, fits-revalued, beside-revalued}
 use Rattle.rules.proofs.Raising.{part-revalued, still-before, was-before}
@@ -22,10 +22,10 @@ use Rattle.rules.proofs.Turns.{Before, by-rank, find-last}
 -- ---- those ahead
 
 -- r has exactly those who take part and fit beside the members of u that come before them; Greedy is the case of r = u
-abbrev pub Chosen : Test → Book → ℕ → ℕ → ℕ → Type 0
+abbrev pub Chosen : RowOrder → Book → ℕ → ℕ → ℕ → Type 0
 Chosen before b w u r = (j : ℕ) → Has r j ↔ (TakesPart b w j × FitsBeside b (ahead before b u j) j)
 
-module _ (before : Test) where
+module _ (before : RowOrder) where
   pub ahead-parts : (b : Book) (x j k : ℕ) → ahead before b x j k ≡ true → Has x k × Before before b k j
   ahead-parts b x j k h = let parts = and-parts (has x k) _ h in (eqb-true _ _ (parts .0), parts .1)
 
@@ -52,13 +52,13 @@ module _ (before : Test) where
   chosen-within b w u r of j won = of j .0 won .0 .exists
 
 -- every member of s is in x, and is j or comes before it
-abbrev UpTo : Test → Book → ℕ → ℕ → (ℕ → Bool) → Type 0
+abbrev UpTo : RowOrder → Book → ℕ → ℕ → (ℕ → Bool) → Type 0
 UpTo before b x j s = (k : ℕ) → s k ≡ true → Has x k × ((k ≡ j) ⊎ Before before b k j)
 
-module _ (before : Test) (ranks : Ranks before) where
+module _ (before : RowOrder) (ranks : Ranks before) where
   -- ---- at most one word is greedy
 
-  same-winners : (b : Book) (w x y : ℕ) → WithinLimits b → Greedy before b w x → Greedy before b w y →
+  same-winners : (b : Book) (w x y : ℕ) → WithinLimits b → IsGreedy before b w x → IsGreedy before b w y →
       (j : ℕ) → j < length (b .rows) → Has x j ↔ Has y j
   same-winners b w x y limits gx gy =
       by-rank before ranks b limits (λ j. Has x j ↔ Has y j) (λ j lj earlier. (
@@ -66,7 +66,7 @@ module _ (before : Test) (ranks : Ranks before) where
         follows before b w y x y x j gy gx (λ k hk first. earlier k (chosen-within before b w x x gx k hk) first .0 hk),
       ))
 
-  pub one-greedy : (b : Book) (w x y : ℕ) → Asked b w → Greedy before b w x → Greedy before b w y → x ≡ y
+  pub one-greedy : (b : Book) (w x y : ℕ) → Asked b w → IsGreedy before b w x → IsGreedy before b w y → x ≡ y
   one-greedy b w x y asked gx gy =
       let few = asked .limits .few-rows in
       let same = same-winners b w x y (asked .limits) gx gy in
@@ -77,7 +77,7 @@ module _ (before : Test) (ranks : Ranks before) where
 
   -- ---- greedy winners can be served together
 
-  module _ (b : Book) (w x : ℕ) (limits : WithinLimits b) (greedy : Greedy before b w x) where
+  module _ (b : Book) (w x : ℕ) (limits : WithinLimits b) (greedy : IsGreedy before b w x) where
     -- a set of winners can be, if it can by its last member
     fits-by-last : (s : ℕ → Bool) → ((k : ℕ) → s k ≡ true → Has x k) →
         ((l : ℕ) → l < length (b .rows) → s l ≡ true → UpTo before b x l s → Fits b s) → Fits b s
@@ -103,8 +103,8 @@ module _ (before : Test) (ranks : Ranks before) where
 
   -- Winners who can be served together are greedy in a second book, if each other bidder has no fewer of them ahead of it there.
   still-greedy : (b c : Book) (w x : ℕ) → ((k : ℕ) → TakesPart b w k ↔ TakesPart c w k) →
-      ((s : ℕ → Bool) (k : ℕ) → FitsBeside c s k → FitsBeside b s k) → Fits c (has x) → Greedy before b w x →
-      ((k : ℕ) → TakesPart b w k → Has x k ⊎ Inside (ahead before b x k) (ahead before c x k)) → Greedy before c w x
+      ((s : ℕ → Bool) (k : ℕ) → FitsBeside c s k → FitsBeside b s k) → Fits c (has x) → IsGreedy before b w x →
+      ((k : ℕ) → TakesPart b w k → Has x k ⊎ Inside (ahead before b x k) (ahead before c x k)) → IsGreedy before c w x
   still-greedy b c w x part beside fits greedy no-fewer k =
       let there = ahead before c x k in (
         (λ won. (
@@ -119,7 +119,7 @@ module _ (before : Test) (ranks : Ranks before) where
 
   module _ (b : Book) (limits : WithinLimits b) (j v : ℕ) (raises : Raises b j v) (w x : ℕ) where
     -- with j among them, the winners are greedy after the raise too
-    greedy-raised : Greedy before b w x → Has x j → Greedy before (withValue j v b) w x
+    greedy-raised : IsGreedy before b w x → Has x j → IsGreedy before (withValue j v b) w x
     greedy-raised greedy won =
         still-greedy b (withValue j v b) w x (λ k. let part = part-revalued j v b w k in (part .1, part .0))
         (λ s k. beside-revalued j v b s k .0) (fits-revalued j v b (has x) .1 (greedy-fits b w x limits greedy)) greedy
@@ -129,7 +129,7 @@ module _ (before : Test) (ranks : Ranks before) where
         (hm, still-before before ranks b limits j v raises m k (greedy m .0 hm .0 .exists) (part .exists) ne first)))) (cases-eq k j))
 
     -- without j among them, winners after the raise were greedy before it
-    greedy-lowered : Greedy before (withValue j v b) w x → (Has x j → ⊥) → Greedy before b w x
+    greedy-lowered : IsGreedy before (withValue j v b) w x → (Has x j → ⊥) → IsGreedy before b w x
     greedy-lowered greedy lost =
         let part = part-revalued j v b w in
         let limits′ = revalued-within j v b limits (raises .priced) in
@@ -143,7 +143,7 @@ module _ (before : Test) (ranks : Ranks before) where
 
   -- ---- the laws
 
-  module _ (f : Rule) (is : (b : Book) (w : ℕ) → Asked b w → Greedy before b w (f b w)) where
+  module _ (f : Rule) (is : (b : Book) (w : ℕ) → Asked b w → IsGreedy before b w (f b w)) where
     module _ (b : Book) (w j v : ℕ) (asked : Asked b w) (raises : Raises b j v) where
       asked-raised : Asked (withValue j v b) w
       asked-raised = record { limits = revalued-within j v b (asked .limits) (raises .priced); word = asked .word }

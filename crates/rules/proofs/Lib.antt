@@ -1,4 +1,3 @@
-pub mod Seen
 pub mod Feasibility
 pub mod Turns
 mod Raising

@@ -3,26 +3,25 @@ use mathlib.Core.Bool.{true}
 use mathlib.Core.Logic.{_↔_, _⊎_, inl, inr, ⊎-elim}
 use mathlib.Core.Path.{_≡_, refl, sym, subst}
 use Prim.Native.Nat.{ℕ, _<_}
-use native.Mathlib.Omega.{arith}
 use lib.ListN.{length}
 use Rattle.std.proofs.shelf.Tests.{and-from, and-parts, cases-eq, eqb-true, eq-eqb}
 use Rattle.sets.specs.Members.{Has, has, NoMember, Adds}
 use Rattle.book.specs.Limits.{WithinLimits}
 use Rattle.book.specs.Model.{Book}
-use Rattle.ranking.specs.Rankings.{Ranks}
+use Rattle.ranking.specs.Rankings.{RowOrder, Ranks}
 use Rattle.rules.specs.Feasible.{FitsBeside}
-use Rattle.rules.specs.Greedy.{Test, Greedy, ahead}
+use Rattle.rules.specs.Greedy.{IsGreedy, ahead}
 use Rattle.rules.specs.Laws.{TakesPart}
 use Rattle.rules.proofs.Feasibility.{Inside, beside-part}
 use Rattle.rules.proofs.Turns.{Before, never-self, one-way}
 
-pub record Midway (before : Test) (b : Book) (w : ℕ) (Waiting : ℕ → Type 0) (winners : ℕ) : Type 0 where
+pub record Midway (before : RowOrder) (b : Book) (w : ℕ) (Waiting : ℕ → Type 0) (winners : ℕ) : Type 0 where
   pub part : (j : ℕ) → Waiting j → TakesPart b w j
   pub later : (j k : ℕ) → Waiting j → TakesPart b w k → (Waiting k → ⊥) → Before before b k j
   pub losing : (j : ℕ) → Waiting j → Has winners j → ⊥
   pub settled : (j : ℕ) → (Waiting j → ⊥) → Has winners j ↔ (TakesPart b w j × FitsBeside b (ahead before b winners j) j)
 
-module _ (before : Test) (b : Book) (w : ℕ) where
+module _ (before : RowOrder) (b : Book) (w : ℕ) where
   pub midway-start : (Waiting : ℕ → Type 0) (winners : ℕ) → ((j : ℕ) → Waiting j ↔ TakesPart b w j) → NoMember winners →
       Midway before b w Waiting winners
   midway-start Waiting winners all none = record {
@@ -32,7 +31,7 @@ module _ (before : Test) (b : Book) (w : ℕ) where
     settled = λ j gone. ((λ h. absurd (none j h)), (λ h. absurd (gone (all j .1 (h .0)))));
   }
 
-  pub midway-end : (Waiting : ℕ → Type 0) (winners : ℕ) → Midway before b w Waiting winners → ((j : ℕ) → Waiting j → ⊥) → Greedy before b w winners
+  pub midway-end : (Waiting : ℕ → Type 0) (winners : ℕ) → Midway before b w Waiting winners → ((j : ℕ) → Waiting j → ⊥) → IsGreedy before b w winners
   midway-end Waiting winners mid nobody j = mid .settled j (nobody j)
 
   module _ (ranks : Ranks before) (limits : WithinLimits b) (Waiting Rest : ℕ → Type 0) (winners j : ℕ) (mid : Midway before b w Waiting winners)

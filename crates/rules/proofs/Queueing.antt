@@ -11,9 +11,8 @@ use Rattle.std.proofs.shelf.Tests.{cases-eq}
 use Rattle.std.specs.shelf.Lists.{Has as Holds}
 use Rattle.book.specs.Model.{Book}
 use Rattle.ranking.specs.declared.contenders.Contender.{Contender}
-use Rattle.ranking.specs.Views.{entry-of}
+use Rattle.ranking.specs.Views.{entry-of, seen}
 use Rattle.rules.specs.declared.queue.Queue.{Queue}
-use Rattle.rules.specs.Greedy.{seen}
 use Rattle.rules.specs.Laws.{TakesPart}
 use Rattle.rules.specs.Queues.{queued, Queued, Distinct, Removes}
 

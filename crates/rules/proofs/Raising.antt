@@ -11,10 +11,10 @@ use Rattle.book.specs.declared.row.Row.{Row}
 use Rattle.book.specs.Limits.{WithinLimits}
 use Rattle.book.specs.Model.{Book, withValue}
 use Rattle.book.proofs.Revalued.{revalued-length, revalued-other, revalued-own, revalued-mark, revalued-within}
-use Rattle.ranking.specs.Rankings.{Entry, entry, worth, Ranks}
-use Rattle.rules.specs.Greedy.{Test, seen}
+use Rattle.ranking.specs.Rankings.{RowOrder, Entry, entry, valued, Ranks}
+use Rattle.ranking.specs.Views.{seen}
 use Rattle.rules.specs.Laws.{TakesPart, Raises}
-use Rattle.rules.proofs.Seen.{seen-possible}
+use Rattle.ranking.proofs.Seen.{seen-possible}
 use Rattle.rules.proofs.Turns.{Before, either, one-way}
 
 module _ (j v : ℕ) (b : Book) where
@@ -30,15 +30,15 @@ module _ (j v : ℕ) (b : Book) where
   seen-other : (k : ℕ) → (k ≡ j → ⊥) → seen (withValue j v b) k ≡ seen b k
   seen-other k ne = ap (λ (x : Row). entry (x .value) (size (x .bundle .word)) k) (revalued-other j v b k ne)
 
-  seen-own : j < length (b .rows) → seen (withValue j v b) j ≡ worth v (seen b j)
+  seen-own : j < length (b .rows) → seen (withValue j v b) j ≡ valued v (seen b j)
   seen-own l = ap (λ (x : Row). entry (x .value) (size (x .bundle .word)) j) (revalued-own j v b l)
 
-  others : (before : Test) (k m : ℕ) → (k ≡ j → ⊥) → (m ≡ j → ⊥) → Before before (withValue j v b) k m ↔ Before before b k m
+  others : (before : RowOrder) (k m : ℕ) → (k ≡ j → ⊥) → (m ≡ j → ⊥) → Before before (withValue j v b) k m ↔ Before before b k m
   others before k m nk nm =
       let P : Entry → Entry → Type 0 = λ x y. before x y ≡ true in
       (subst₂ P (seen-other k nk) (seen-other m nm), subst₂ P (sym (seen-other k nk)) (sym (seen-other m nm)))
 
-module _ (before : Test) (ranks : Ranks before) (b : Book) (limits : WithinLimits b) (j v : ℕ) (raises : Raises b j v) where
+module _ (before : RowOrder) (ranks : Ranks before) (b : Book) (limits : WithinLimits b) (j v : ℕ) (raises : Raises b j v) where
   -- j still comes before whom it came before
   keeps-lead : (m : ℕ) → j < length (b .rows) → m < length (b .rows) → (m ≡ j → ⊥) →
       Before before b j m → Before before (withValue j v b) j m

@@ -5,35 +5,35 @@ use mathlib.Core.Logic.{_↔_, ⊎-elim}
 use mathlib.Core.Path.{_≡_, refl, sym, ap, subst, subst₂, _∙_}
 use Prim.Native.Nat.{ℕ, _<_}
 use native.Mathlib.Omega.{arith}
-use lib.ListN.{length, getD}
+use lib.ListN.{length}
 use Rattle.std.specs.shelf.Lists.{Has as Holds}
 use Rattle.sets.specs.Members.{NoMember}
 use Rattle.book.specs.Limits.{WithinLimits}
 use Rattle.book.specs.Model.{Book, row}
 use Rattle.ranking.specs.declared.contenders.Contender.{Contender}
 use Rattle.ranking.specs.Orders.{FirstOf}
-use Rattle.ranking.specs.Rankings.{Ranks}
-use Rattle.ranking.specs.Views.{entry-of}
+use Rattle.ranking.specs.Rankings.{RowOrder, Ranks}
+use Rattle.ranking.specs.Views.{entry-of, seen}
 use Rattle.rules.specs.declared.allotment.Allotment.{Allotment}
 use Rattle.rules.specs.Allotments.{Offers}
-use Rattle.rules.specs.Greedy.{Test, Greedy, seen}
+use Rattle.rules.specs.Greedy.{IsGreedy}
 use Rattle.rules.specs.Queues.{Queued, Distinct, Waits, Removes}
 use Rattle.rules.proofs.Midway.{Midway, midway-start, midway-end, midway-skip, midway-take}
 use Rattle.rules.proofs.Queueing.{removed-left, left-removed, removed-distinct}
 use Rattle.rules.proofs.Taken.{Taken, taken-none, taken-more, free-fits, fits-free}
 use Rattle.rules.proofs.Turns.{Before, either}
 
-pub record Serving (before : Test) (b : Book) (w : ℕ) (xs : List Contender) (a : Allotment) : Type 0 where
+pub record Serving (before : RowOrder) (b : Book) (w : ℕ) (xs : List Contender) (a : Allotment) : Type 0 where
   pub mid : Midway before b w (Waits xs) (a .winners .word)
   pub items : Taken b (a .winners .word) (a .taken .word)
   pub sees : (x : Contender) → Holds xs x → entry-of x ≡ seen b (x .number)
   pub distinct : Distinct xs
 
 -- one contender comes before another
-abbrev pub Ahead : Test → Contender → Contender → Type 0
+abbrev pub Ahead : RowOrder → Contender → Contender → Type 0
 Ahead before x y = before (entry-of x) (entry-of y) ≡ true
 
-module _ (before : Test) (b : Book) (w : ℕ) where
+module _ (before : RowOrder) (b : Book) (w : ℕ) where
   pub serving-start : (xs : List Contender) (a : Allotment) → Queued b w (length (b .rows)) xs → NoMember (a .winners .word) →
       NoMember (a .taken .word) → Serving before b w xs a
   serving-start xs a queue nobody nothing = record {
@@ -43,7 +43,7 @@ module _ (before : Test) (b : Book) (w : ℕ) where
     distinct = queue .distinct;
   }
 
-  pub serving-end : (xs : List Contender) (a : Allotment) → Serving before b w xs a → length xs ≡ 0 → Greedy before b w (a .winners .word)
+  pub serving-end : (xs : List Contender) (a : Allotment) → Serving before b w xs a → length xs ≡ 0 → IsGreedy before b w (a .winners .word)
   serving-end xs a serving empty =
       midway-end before b w (Waits xs) (a .winners .word) (serving .mid) (λ j h. let inside = h .1 .1 in omega arith)
 

@@ -1,8 +1,8 @@
 -- The items that a set of winners takes, and who fits beside it.
 use mathlib.Core.Logic.{_↔_, _⊎_, inl, inr, ⊎-elim}
-use mathlib.Core.Path.{_≡_, refl, subst, sym}
+use mathlib.Core.Path.{refl, subst}
 use Prim.Native.Nat.{ℕ, _<_}
-use Rattle.std.proofs.shelf.Tests.{cases-eq, eqb-true, eq-eqb}
+use Rattle.std.proofs.shelf.Tests.{eqb-true, eq-eqb}
 use Rattle.sets.specs.Members.{Has, has, NoMember, Meet, Adds, Joins}
 use Rattle.book.specs.Model.{Book, row}
 use Rattle.rules.specs.Feasible.{FitsBeside}

@@ -8,12 +8,12 @@ use lib.ListN.{length}
 use Rattle.std.proofs.shelf.Tests.{cases-bool, cases-eq, both-ways, false≢true}
 use Rattle.book.specs.Limits.{WithinLimits}
 use Rattle.book.specs.Model.{Book}
-use Rattle.ranking.specs.Rankings.{Ranks}
-use Rattle.rules.specs.Greedy.{Test, seen}
-use Rattle.rules.proofs.Seen.{seen-possible}
+use Rattle.ranking.specs.Rankings.{RowOrder, Ranks}
+use Rattle.ranking.specs.Views.{seen}
+use Rattle.ranking.proofs.Seen.{seen-possible}
 
 -- k comes before j
-abbrev pub Before : Test → Book → ℕ → ℕ → Type 0
+abbrev pub Before : RowOrder → Book → ℕ → ℕ → Type 0
 Before before b k j = before (seen b k) (seen b j) ≡ true
 
 -- ---- of how many numbers below n a test holds
@@ -63,11 +63,11 @@ count-all (suc n) = let rest = count-all n in omega arith
 -- ---- the order
 
 -- how many bidders come before j
-pub rank : Test → Book → ℕ → ℕ
+pub rank : RowOrder → Book → ℕ → ℕ
 rank before b j = count (λ k. before (seen b k) (seen b j)) (length (b .rows))
 
 -- l is the last of the members of s below n
-pub record LastOf (before : Test) (b : Book) (s : ℕ → Bool) (n l : ℕ) : Type 0 where
+pub record LastOf (before : RowOrder) (b : Book) (s : ℕ → Bool) (n l : ℕ) : Type 0 where
   pub inside : l < n
   pub member : s l ≡ true
   pub others : (k : ℕ) → k < n → s k ≡ true → (k ≡ l) ⊎ Before before b k l
@@ -76,7 +76,7 @@ pub record LastOf (before : Test) (b : Book) (s : ℕ → Bool) (n l : ℕ) : Ty
 at-most : {A : Type 0} (k n : ℕ) → k < suc n → (k ≡ n → A) → (k < n → A) → A
 at-most k n l at under = ⊎-elim at (λ ne. under (omega arith)) (cases-eq k n)
 
-module _ (before : Test) (b : Book) (s : ℕ → Bool) (n : ℕ) where
+module _ (before : RowOrder) (b : Book) (s : ℕ → Bool) (n : ℕ) where
   -- n becomes the last, if all others come before it
   last-new : s n ≡ true → ((k : ℕ) → k < n → s k ≡ true → Before before b k n) → LastOf before b s (suc n) n
   last-new yea first =
@@ -91,7 +91,7 @@ module _ (before : Test) (b : Book) (s : ℕ → Bool) (n : ℕ) where
         at-most k n lk (λ e. inr (subst (λ i. Before before b i l) (sym e) (first (sym (ap s e) ∙ h)))) (λ under. last .others k under h);
   }
 
-module _ (before : Test) (ranks : Ranks before) (b : Book) (limits : WithinLimits b) where
+module _ (before : RowOrder) (ranks : Ranks before) (b : Book) (limits : WithinLimits b) where
   pub never-self : (j : ℕ) → j < length (b .rows) → Before before b j j → ⊥
   never-self j lj = ranks .irreflexive (seen b j) (seen-possible b limits j lj)
 

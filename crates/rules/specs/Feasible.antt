@@ -1,5 +1,5 @@
 -- Which bidders can be served together. A set of bidders is given here by its test: a word w by `has w`.
-use mathlib.Core.Bool.{Bool, true, false, not, _&&_}
+use mathlib.Core.Bool.{Bool, true, not, _&&_}
 use mathlib.Core.Path.{_≡_}
 use Prim.Native.Nat.{ℕ, zero, suc}
 use lib.Bits.{bitAnd}

@@ -6,9 +6,8 @@ use lib.ListN.{length, getD, take}
 use Rattle.std.specs.shelf.Lists.{Has as Holds}
 use Rattle.book.specs.Model.{Book}
 use Rattle.ranking.specs.declared.contenders.Contender.{Contender}
-use Rattle.ranking.specs.Views.{entry-of}
+use Rattle.ranking.specs.Views.{entry-of, seen}
 use Rattle.rules.specs.declared.queue.Queue.{Queue}
-use Rattle.rules.specs.Greedy.{seen}
 use Rattle.rules.specs.Laws.{TakesPart}
 
 unfoldable pub queued : Queue → List Contender

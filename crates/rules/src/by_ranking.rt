@@ -1,6 +1,6 @@
 ghost use mathlib.Core.Path.{_≡_};
 ghost use Rattle.book.specs.Views.{closed-view};
-ghost use Rattle.rules.specs.Greedy.{Greedy as ByTurns, greedy, GreedyTheorems};
+ghost use Rattle.rules.specs.Greedy.{IsGreedy, greedy, GreedyTheorems};
 use crate::allotment::Allotment;
 use crate::interface::AllocationRule;
 use crate::queue::Queue;
@@ -19,7 +19,7 @@ pub struct Greedy<R> {
 impl<R: Ranking> Greedy<R> {
     fn serve(&self, book: &ClosedBook, admitted: BidderSet) -> BidderSet
         ensures rule { λ r. ⌜ r .word ≡ greedy (before (now (self .entry) .ranking)) (closed-view (now (book .entry))) (admitted .word) ⌝ }
-        ensures turns { λ r. ⌜ ByTurns (before (now (self .entry) .ranking)) (closed-view (now (book .entry))) (admitted .word) (r .word) ⌝ }
+        ensures turns { λ r. ⌜ IsGreedy (before (now (self .entry) .ranking)) (closed-view (now (book .entry))) (admitted .word) (r .word) ⌝ }
         ensures theorems { λ _. ⌜ GreedyTheorems (before (now (self .entry) .ranking)) ⌝ }
     {
         let mut queue = Queue::of(book, admitted);
@@ -37,7 +37,7 @@ pub impl<R: Ranking> AllocationRule for Greedy<R> as GreedyRule {
 
     fn choose(&self, book: &ClosedBook, admitted: BidderSet) -> BidderSet
         ensures rule { λ r. ⌜ r .word ≡ greedy (R·Ranking .before (now (self .entry) .ranking)) (closed-view (now (book .entry))) (admitted .word) ⌝ }
-        ensures turns { λ r. ⌜ ByTurns (R·Ranking .before (now (self .entry) .ranking)) (closed-view (now (book .entry))) (admitted .word) (r .word) ⌝ }
+        ensures turns { λ r. ⌜ IsGreedy (R·Ranking .before (now (self .entry) .ranking)) (closed-view (now (book .entry))) (admitted .word) (r .word) ⌝ }
         ensures theorems { λ _. ⌜ GreedyTheorems (R·Ranking .before (now (self .entry) .ranking)) ⌝ }
     {
         self.serve(book, admitted)

@@ -1,6 +1,4 @@
 ghost use mathlib.Core.Path.{_≡_};
-ghost use Prim.Native.Nat.{ℕ};
-ghost use Rattle.book.specs.Model.{Book};
 ghost use Rattle.book.specs.Views.{closed-view};
 ghost use Rattle.rules.specs.Laws.{Rule, Monotone, Bitonic};
 use book::ClosedBook;

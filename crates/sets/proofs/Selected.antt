@@ -1,13 +1,13 @@
--- Sets of the things that pass a test, and sums over the members of a word.
+-- Sets of the things that pass a test.
 use mathlib.Core.Path.{_≡_, sym, ap, subst, _∙_}
 use mathlib.Core.Logic.{_⊎_, _↔_, inl, inr, ⊎-elim}
 use mathlib.Core.Bool.{Bool, true, false}
-use Prim.Native.Nat.{ℕ, zero, suc, _+_, _-_, _*_, _/_, _%_, _^_, _≤_, _<_}
+use Prim.Native.Nat.{ℕ, zero, suc, _+_, _-_, _*_, _/_, _%_, _^_, _<_}
 use native.Mathlib.Nat.{add-zero, pow-suc}
 use native.Mathlib.Omega.{arith}
 use Rattle.std.proofs.shelf.Bits.{pow-pos, pow-add, shr-split, shr-high, mod-below}
-use Rattle.std.proofs.shelf.Tests.{cases-bool, cases-eq, eq-eqb, ne-eqb, cond-true, cond-false, both-ways}
-use Rattle.sets.specs.Members.{Has, has, Selects, those, sum-over}
+use Rattle.std.proofs.shelf.Tests.{cases-bool, cases-eq, cond-true, cond-false, both-ways}
+use Rattle.sets.specs.Members.{Has, those}
 use Rattle.sets.proofs.Words.{zero-none, below-within, within-below}
 
 -- ---- n put on top of a set of things below n
@@ -41,7 +41,7 @@ topped r n k small = (
 
 -- ---- the things below n that pass a test
 
-pub those-selects : (test : ℕ → Bool) (n : ℕ) → Selects test n (those test n)
+pub those-selects : (test : ℕ → Bool) (n k : ℕ) → Has (those test n) k ↔ ((k < n) × (test k ≡ true))
 unfolding those
 those-selects test zero k = ((λ h. absurd (zero-none k h)), (λ p. absurd (omega arith)))
 those-selects test (suc n) k =
@@ -62,18 +62,3 @@ those-selects test (suc n) k =
       (λ h. let q = below k .0 h in (omega arith, q .1)),
       (λ p. let ne = other (p .1) in below k .1 (omega arith, p .1)),
     )) (cases-bool (test n))
-
--- ---- sums over members
-
-pub sum-le : (w : ℕ) (f g : ℕ → ℕ) (n : ℕ) → ((k : ℕ) → Has w k → f k ≤ g k) → sum-over w f n ≤ sum-over w g n
-sum-le w f g zero le = omega arith
-sum-le w f g (suc n) le =
-    let rest = sum-le w f g n le in
-    ⊎-elim
-    (λ (h : Has w n).
-    let here = le n h in
-    let yea = eq-eqb (w / 2 ^ n % 2) 1 h in
-    omega (arith, cond-true (has w n) (f n) 0 yea, cond-true (has w n) (g n) 0 yea))
-    (λ ne.
-    let nay = ne-eqb (w / 2 ^ n % 2) 1 ne in
-    omega (arith, cond-false (has w n) (f n) 0 nay, cond-false (has w n) (g n) 0 nay)) (cases-eq (w / 2 ^ n % 2) 1)

@@ -1,7 +1,7 @@
 -- A set of things numbered from 0 to 63, held as a 64-bit word: thing i is a member exactly if bit i is set.
 use mathlib.Core.Path.{_≡_}
 use mathlib.Core.Logic.{_⊎_, _↔_}
-use mathlib.Core.Bool.{Bool, true, cond}
+use mathlib.Core.Bool.{Bool, cond}
 use lib.Dec.{eqb}
 use Prim.Native.Nat.{ℕ, zero, suc, _+_, _/_, _%_, _^_, _<_}
 
@@ -49,11 +49,7 @@ Joins a b r = (k : ℕ) → Has r k ↔ (Has a k ⊎ Has b k)
 
 -- ---- sets by a test
 
--- exactly the things below n that pass the test
-abbrev pub Selects : (ℕ → Bool) → ℕ → ℕ → Type 0
-Selects test n r = (k : ℕ) → Has r k ↔ ((k < n) × (test k ≡ true))
-
--- the word of that set
+-- the word of the things below n that pass the test
 unfoldable pub those : (ℕ → Bool) → ℕ → ℕ
 those test zero = 0
 those test (suc n) = those test n + cond (test n) (2 ^ n) 0

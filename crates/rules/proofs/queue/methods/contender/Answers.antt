@@ -1,8 +1,7 @@
 use borrow.Author.Needs.{needs}
-use native.Mathlib.Omega.{arith}
 use Rattle.book.specs.Views.{closed-view}
 use Rattle.book.proofs.Kept.{closed-within}
-use Rattle.rules.proofs.Seen.{seen-possible}
+use Rattle.ranking.proofs.Seen.{seen-possible}
 use Rattle.rules.proofs.queue.methods.contender.Needs as need
 
 pub ghost-result : need.ghost-result

@@ -3,12 +3,12 @@ use Prim.Native.Nat.{ℕ, _<_}
 use native.Mathlib.Omega.{arith}
 use lib.ListN.{length}
 use lib.Pow.{pow-mono}
-use Rattle.sets.proofs.Sizes.{size-few, size-some}
+use Rattle.sets.proofs.Sums.{size-few, size-some}
 use Rattle.sets.proofs.Words.{within-below}
 use Rattle.book.specs.Limits.{WithinLimits}
 use Rattle.book.specs.Model.{Book, row}
 use Rattle.ranking.specs.Rankings.{Possible}
-use Rattle.rules.specs.Greedy.{seen}
+use Rattle.ranking.specs.Views.{seen}
 
 pub seen-possible : (b : Book) → WithinLimits b → (j : ℕ) → j < length (b .rows) → Possible (seen b j)
 seen-possible b limits j inside =

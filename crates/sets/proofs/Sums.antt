@@ -1,4 +1,4 @@
--- How many members a word can have.
+-- Sums over the members of a word, and how many members it can have.
 use mathlib.Core.Logic.{⊎-elim}
 use mathlib.Core.Path.{_≡_, subst}
 use Prim.Native.Nat.{ℕ, zero, suc, _/_, _%_, _^_, _≤_, _<_}
@@ -7,6 +7,21 @@ use lib.Count.{trailingZeros}
 use Rattle.std.proofs.shelf.Tests.{cases-eq, cond-true, cond-false, eq-eqb, ne-eqb}
 use Rattle.sets.specs.Members.{Has, has, NoMember, sum-over, size}
 use Rattle.sets.proofs.Words.{some-pos, trailing-lowest, below-within}
+
+pub sum-le : (w : ℕ) (f g : ℕ → ℕ) (n : ℕ) → ((k : ℕ) → Has w k → f k ≤ g k) → sum-over w f n ≤ sum-over w g n
+sum-le w f g zero le = omega arith
+sum-le w f g (suc n) le =
+    let rest = sum-le w f g n le in
+    ⊎-elim
+    (λ (h : Has w n).
+    let here = le n h in
+    let yea = eq-eqb (w / 2 ^ n % 2) 1 h in
+    omega (arith, cond-true (has w n) (f n) 0 yea, cond-true (has w n) (g n) 0 yea))
+    (λ ne.
+    let nay = ne-eqb (w / 2 ^ n % 2) 1 ne in
+    omega (arith, cond-false (has w n) (f n) 0 nay, cond-false (has w n) (g n) 0 nay)) (cases-eq (w / 2 ^ n % 2) 1)
+
+-- ---- how many
 
 sum-few : (w n : ℕ) → sum-over w (λ _. 1) n ≤ n
 sum-few w zero = omega arith
