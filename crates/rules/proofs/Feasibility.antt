@@ -1,4 +1,4 @@
--- The laws of feasibility: all that the other proofs know of which bidders can be served together.
+-- The laws of feasibility: all that the proofs about rules know of which bidders can be served together.
 use mathlib.Core.Bool.{Bool, true, not, _&&_}
 use mathlib.Core.Logic.{_⊎_, _↔_, ⊎-elim}
 use mathlib.Core.Path.{_≡_, refl, sym, ap, subst, subst₂, _∙_}
@@ -120,10 +120,9 @@ module _ (b : Book) (limits : WithinLimits b) (s : ℕ → Bool) (j : ℕ) where
         (λ h. and-from _ _ (h .0) (and-from _ _ (not-from-false _ (ne-eqb _ _ (h .1))) (meet .1 (h .2)))),
       )
 
-  pub decides-beside : ((k : ℕ) → s k ≡ true → k < length (b .rows)) → j < length (b .rows) →
-      Decides (fits-beside b s j) (FitsBeside b s j)
+  pub decides-beside : ((k : ℕ) → s k ≡ true → k < length (b .rows)) → Decides (fits-beside b s j) (FitsBeside b s j)
   unfolding none-bad clashes FitsBeside fits-beside
-  decides-beside below inside =
+  decides-beside below =
       let none = decides-none (clashes b s j) (length (b .rows)) in (
         (λ yea k hk ne share. let l = below k hk in none .0 yea k l (decides-clashes k l .1 (hk, ne, share))),
         (λ fits. none .1 (λ k l bad. let h = decides-clashes k l .0 bad in fits k (h .0) (h .1) (h .2))),

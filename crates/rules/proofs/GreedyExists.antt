@@ -53,9 +53,9 @@ module _ (before : RowOrder) (b : Book) (w : ℕ) where
               let parts = and-parts (stands b j) _ (selected .0 h .1) in
               let rest = and-parts (has w j) _ (parts .1) in
               let (exists, standing) = up .0 (parts .0) in
-              (record { exists = exists; stands = standing; admits = eqb-true _ _ (rest .0) }, beside exists .0 (rest .1))),
+              (record { exists = exists; stands = standing; admits = eqb-true _ _ (rest .0) }, beside .0 (rest .1))),
           (λ (part, fits).
-              let rest = and-from (has w j) _ (eq-eqb _ _ (part .admits)) (beside (part .exists) .1 fits) in
+              let rest = and-from (has w j) _ (eq-eqb _ _ (part .admits)) (beside .1 fits) in
               selected .1 (part .exists, and-from (stands b j) _ (up .1 (part .exists, part .stands)) rest)),
         )
 

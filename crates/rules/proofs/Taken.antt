@@ -1,4 +1,4 @@
--- The items that a set of winners takes, and who fits beside it.
+-- Feasibility as the program tests it: by the items that the winners take.
 use mathlib.Core.Logic.{_↔_, _⊎_, inl, inr, ⊎-elim}
 use mathlib.Core.Path.{refl, subst}
 use Prim.Native.Nat.{ℕ, _<_}

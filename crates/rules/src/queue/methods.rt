@@ -12,7 +12,6 @@ use book::ClosedBook;
 use book::Mark;
 use book::MarkPartialEq;
 use book::ROW_LIMIT;
-use book::Row;
 use ranking::Contender;
 use sets::BidderSet;
 
