@@ -18,9 +18,10 @@ use Rattle.book.specs.Runs.{isStanding, stands}
 use Rattle.ranking.specs.Rankings.{RowOrder, Ranks}
 use Rattle.rules.specs.Feasible.{fits-beside}
 use Rattle.rules.specs.Greedy.{ahead, IsGreedy, turn, repeat, greedy, GreedyTheorems}
+use Rattle.rules.proofs.Ahead.{ahead-parts}
 use Rattle.rules.proofs.Feasibility.{decides-beside}
 use Rattle.rules.specs.Laws.{Asked}
-use Rattle.rules.proofs.GreedyLaws.{Chosen, ahead-parts, follows, one-greedy, greedy-lawful}
+use Rattle.rules.proofs.GreedyLaws.{Chosen, follows, one-greedy, greedy-lawful}
 use Rattle.rules.proofs.Turns.{Before, rank, rank-lt, rank-below}
 
 decides-standing : (m : Mark) → Decides (isStanding m) (m ≡ Standing)

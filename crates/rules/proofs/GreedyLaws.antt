@@ -5,7 +5,7 @@ use mathlib.Core.Path.{_≡_, sym, subst}
 use Prim.Native.Nat.{ℕ, _≤_, _<_}
 use native.Mathlib.Omega.{arith}
 use lib.ListN.{length}
-use Rattle.std.proofs.shelf.Tests.{and-from, and-parts, cases-eq, eqb-true, eq-eqb}
+use Rattle.std.proofs.shelf.Tests.{cases-eq, eqb-true, eq-eqb}
 use Rattle.sets.specs.Members.{Has, has, Within}
 use Rattle.sets.proofs.Words.{same-words, within-below}
 use Rattle.book.specs.Limits.{WithinLimits}
@@ -15,36 +15,22 @@ use Rattle.ranking.specs.Rankings.{RowOrder, Ranks}
 use Rattle.rules.specs.Feasible.{Fits, FitsBeside}
 use Rattle.rules.specs.Greedy.{ahead, IsGreedy}
 use Rattle.rules.specs.Laws.{Rule, TakesPart, Asked, Raises, Lawful}
+use Rattle.rules.proofs.Ahead.{ahead-parts, ahead-from, ahead-inside}
 use Rattle.rules.proofs.Feasibility.{Inside, fits-none, fits-with, beside-part, beside-own, fits-revalued, beside-revalued}
 use Rattle.rules.proofs.Raising.{part-revalued, still-before, was-before}
 use Rattle.rules.proofs.Turns.{Before, by-rank, find-last}
 
--- ---- those ahead
-
--- r has exactly those who take part and fit beside the members of u that come before them; Greedy is the case of r = u
+-- r has exactly those who take part and fit beside the members of u that come before them; IsGreedy is the case of r = u
 abbrev pub Chosen : RowOrder → Book → ℕ → ℕ → ℕ → Type 0
 Chosen before b w u r = (j : ℕ) → Has r j ↔ (TakesPart b w j × FitsBeside b (ahead before b u j) j)
 
 module _ (before : RowOrder) where
-  pub ahead-parts : (b : Book) (x j k : ℕ) → ahead before b x j k ≡ true → Has x k × Before before b k j
-  ahead-parts b x j k h = let parts = and-parts (has x k) _ h in (eqb-true _ _ (parts .0), parts .1)
-
-  ahead-from : (b : Book) (x j k : ℕ) → Has x k → Before before b k j → ahead before b x j k ≡ true
-  ahead-from b x j k h first = and-from (has x k) _ (eq-eqb _ _ h) first
-
-  ahead-inside : (b c : Book) (x y j : ℕ) → ((k : ℕ) → Has x k → Before before b k j → Has y k × Before before c k j) →
-      Inside (ahead before b x j) (ahead before c y j)
-  ahead-inside b c x y j more k h =
-      let parts = ahead-parts b x j k h in
-      let there = more k (parts .0) (parts .1) in
-      ahead-from c y j k (there .0) (there .1)
-
   -- where u has every member of u′ that comes before j, j is chosen beside u′ if it is beside u
   pub follows : (b : Book) (w u u′ r r′ j : ℕ) → Chosen before b w u r → Chosen before b w u′ r′ →
       ((k : ℕ) → Has u′ k → Before before b k j → Has u k) → Has r j → Has r′ j
   follows b w u u′ r r′ j of of′ fewer won =
       let h = of j .0 won in
-      let part = ahead-inside b b u′ u j (λ k hk first. (fewer k hk first, first)) in
+      let part = ahead-inside before b b u′ u j (λ k hk first. (fewer k hk first, first)) in
       of′ j .1 (h .0, beside-part b (ahead before b u′ j) (ahead before b u j) j part (h .1))
 
   -- every member has a row

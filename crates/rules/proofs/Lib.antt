@@ -1,5 +1,6 @@
 pub mod Feasibility
 pub mod Turns
+mod Ahead
 mod Raising
 mod GreedyLaws
 pub mod GreedyExists
