@@ -1,6 +1,6 @@
 ghost use Prim.Native.Nat.{_≤_};
 
-/// What a ranking sees of a row: the declared value, the number of items in the bundle, and the row's number.
+/// What a ranking sees of a row that can exist: the declared value, the number of items in the bundle, and the row's number.
 #[derive(Clone, Copy)]
 pub struct Contender {
     pub value: u32,

@@ -20,7 +20,7 @@ pub trait Order<T> {
 
 /// The place of an item that no other comes before; none if there is no item.
 pub fn first<T, O: Order<T>>(order: &O, items: &[T]) -> Option<usize>
-    ensures { λ r. ⌜ Cases r (length (now (items .entry)) ≡ 0) (FirstOf (before (now (order .entry))) (now (items .entry)) (length (now (items .entry)))) ⌝ }
+    ensures { λ r. ⌜ Cases r (length (now (items .entry)) ≡ 0) (FirstOf (before (now (order .entry))) (now (items .entry))) ⌝ }
 {
     if items.is_empty() {
         return None;

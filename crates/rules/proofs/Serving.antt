@@ -48,7 +48,7 @@ module _ (before : RowOrder) (b : Book) (w : ℕ) where
       midway-end before b w (Waits xs) (a .winners .word) (serving .mid) (λ j h. let inside = h .1 .1 in omega arith)
 
   module _ (ranks : Ranks before) (limits : WithinLimits b) (xs ys : List Contender) (p : ℕ) (x : Contender) (a : Allotment) (serving : Serving before b w xs a)
-      (is-first : FirstOf (Ahead before) xs (length xs) p) (removed : Removes xs p x ys) where
+      (is-first : FirstOf (Ahead before) xs p) (removed : Removes xs p x ys) where
     at-p : Holds xs x
     at-p = (p, is-first .inside, removed .out)
 

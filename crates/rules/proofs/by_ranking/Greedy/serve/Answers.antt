@@ -32,7 +32,7 @@ exists g c =
     let w = c .args .admitted .word in
     let xs = queued (c .loop-place .queue) in
     let p = c .in-Some .place in
-    let is-first = subst (λ (l : List Contender). FirstOf (Ahead before) l (length l) p) (c .as-slice .ensures) (c .in-Some .ensures tt) in
+    let is-first = subst (λ (l : List Contender). FirstOf (Ahead before) l p) (c .as-slice .ensures) (c .in-Some .ensures tt) in
     next-exists before (closed-view book) w (g .R·Ranking·met .ranks ranking) (closed-within book) xs (queued (c .swap-remove-next .last .self)) p (c .swap-remove-next .result)
     (c .loop-place .allotment) (c .loop-place .inv w (c .of-queue .ensures)) is-first (c .swap-remove-next .ensures)
 
@@ -59,7 +59,7 @@ loop-place-again g c w queue =
     let p = c .in-Some .place in
     let x = c .swap-remove-next .result in
     let a = c .loop-place .allotment in
-    let is-first = subst (λ (l : List Contender). FirstOf (Ahead before) l (length l) p) (c .as-slice .ensures) (c .in-Some .ensures tt) in
+    let is-first = subst (λ (l : List Contender). FirstOf (Ahead before) l p) (c .as-slice .ensures) (c .in-Some .ensures tt) in
     let inside = next-exists before b w (g .R·Ranking·met .ranks ranking) (closed-within book) xs (queued (c .swap-remove-next .last .self)) p x a (c .loop-place .inv w queue) is-first
     (c .swap-remove-next .ensures) in
     let limit = closed-within book .few-rows in
