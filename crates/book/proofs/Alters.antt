@@ -6,7 +6,7 @@ use Prim.Native.Nat.{ℕ, zero, suc, _<_}
 use native.Mathlib.Omega.{arith}
 use lib.ListN.{length, getD, set}
 use Rattle.book.specs.declared.row.Row.{Row}
-use Rattle.book.specs.Model.{blank, priced}
+use Rattle.book.specs.Model.{blank}
 
 abbrev pub alter : (Row → Row) → ℕ → List Row → List Row
 alter f j rs = set rs j (f (getD rs j blank))
@@ -33,11 +33,3 @@ alter-last f zero [] x e = refl
 alter-last f zero (r ∷ rs) x e = absurd (omega arith)
 alter-last f (suc j) [] x e = absurd (omega arith)
 alter-last f (suc j) (r ∷ rs) x e = ap (λ l. r ∷ l) (alter-last f j rs x (omega arith))
-
--- another value leaves every mark
-pub priced-marks : (v j i : ℕ) (rs : List Row) → getD (alter (priced v) j rs) i blank .mark ≡ getD rs i blank .mark
-priced-marks v j i [] = refl
-priced-marks v zero zero (r ∷ rs) = refl
-priced-marks v zero (suc i) (r ∷ rs) = refl
-priced-marks v (suc j) zero (r ∷ rs) = refl
-priced-marks v (suc j) (suc i) (r ∷ rs) = priced-marks v j i rs

@@ -14,25 +14,23 @@ use Rattle.book.specs.declared.call.Call.the-variants.{Size, Enter, Revise, Wi
 use Rattle.book.specs.Checks.{next}
 use Rattle.book.specs.Model.{Book, book, fresh, row, priced, withdrawn, withValue, greatest}
 use Rattle.book.specs.Runs.{isStanding, stands, accepts, step, run, IsFor, Bids, NoBid, LastBid, revalued, OnlyValueMoves, EachHasBid}
-use Rattle.book.proofs.Alters.{alter-other, alter-twice, alter-early, alter-last, priced-marks}
+use Rattle.book.proofs.Alters.{alter-other, alter-twice, alter-early, alter-last}
+use Rattle.book.proofs.Revalued.{revalued-length, revalued-mark}
 
 -- ---- a call on a book with another value for j
 
-valued-length : (j v : ℕ) (b : Book) → length (withValue j v b .rows) ≡ length (b .rows)
-valued-length j v b = length-set (b .rows) j _
-
 stands-valued : (j v : ℕ) (b : Book) (i : ℕ) → stands (withValue j v b) i ≡ stands b i
 stands-valued j v b i =
-    ap (λ n. ltb i n && isStanding (row (withValue j v b) i .mark)) (valued-length j v b)
-    ∙ ap (λ m. ltb i (length (b .rows)) && isStanding m) (priced-marks v j i (b .rows))
+    ap (λ n. ltb i n && isStanding (row (withValue j v b) i .mark)) (revalued-length j v b)
+    ∙ ap (λ m. ltb i (length (b .rows)) && isStanding m) (revalued-mark j v b i)
 
 -- whether a call is accepted does not depend on the values in the book
 accepts-valued : (c : Call) (j v : ℕ) (b : Book) → accepts c (withValue j v b) ≡ accepts c b
-accepts-valued (Size m) j v b = ap (λ n. leb 1 m && (leb m 64 && eqb n 0)) (valued-length j v b)
-accepts-valued (Enter s w) j v b = ap (λ n. leb w greatest && (ltb n 64 && (ltb 0 (s .word) && ltb (s .word) (2 ^ b .items)))) (valued-length j v b)
+accepts-valued (Size m) j v b = ap (λ n. leb 1 m && (leb m 64 && eqb n 0)) (revalued-length j v b)
+accepts-valued (Enter s w) j v b = ap (λ n. leb w greatest && (ltb n 64 && (ltb 0 (s .word) && ltb (s .word) (2 ^ b .items)))) (revalued-length j v b)
 accepts-valued (Revise i w) j v b = ap (λ t. leb w greatest && t) (stands-valued j v b i)
 accepts-valued (Withdraw i) j v b = stands-valued j v b i
-accepts-valued (Show i) j v b = ap (ltb i) (valued-length j v b)
+accepts-valued (Show i) j v b = ap (ltb i) (revalued-length j v b)
 
 -- what it does leaves the value of j alone, unless it is a bid of j
 next-valued : (c : Call) (j v : ℕ) (b : Book) → j < length (b .rows) → (IsFor j c b → ⊥) → next c (withValue j v b) ≡ withValue j v (next c b)
