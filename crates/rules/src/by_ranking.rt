@@ -12,7 +12,7 @@ use sets::BidderSet;
 
 /// In ranking order, each bidder wins who shares no item with a winner before it.
 #[derive(Clone, Copy)]
-pub struct Greedy<R> {
+pub struct Greedy<R: Ranking> {
     pub ranking: R,
 }
 
