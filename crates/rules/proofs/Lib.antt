@@ -4,7 +4,7 @@ mod Ahead
 mod Raising
 mod GreedyLaws
 pub mod GreedyExists
-mod Queueing
+mod WaitingLists
 mod Taken
 mod Midway
 mod Serving

@@ -1,4 +1,4 @@
--- What holds from turn to turn of the queue, the winners and the items that they take.
+-- What holds from turn to turn of the waiting, the winners and the items that they take.
 use mathlib.Core.Bool.{true}
 use mathlib.Core.List.{List}
 use mathlib.Core.Logic.{_↔_, ⊎-elim}
@@ -17,9 +17,9 @@ use Rattle.ranking.specs.Views.{entry-of, seen}
 use Rattle.rules.specs.declared.allotment.Allotment.{Allotment}
 use Rattle.rules.specs.Allotments.{Offers}
 use Rattle.rules.specs.Greedy.{IsGreedy}
-use Rattle.rules.specs.Queues.{Queued, Distinct, Waits, Removes}
+use Rattle.rules.specs.WaitingLists.{Waiting, Distinct, Waits, Removes}
 use Rattle.rules.proofs.Midway.{Midway, midway-start, midway-end, midway-skip, midway-take}
-use Rattle.rules.proofs.Queueing.{removed-left, left-removed, removed-distinct}
+use Rattle.rules.proofs.WaitingLists.{removed-left, left-removed, removed-distinct}
 use Rattle.rules.proofs.Taken.{Taken, taken-none, taken-more, free-fits, fits-free}
 use Rattle.rules.proofs.Turns.{Before, either}
 
@@ -34,13 +34,13 @@ abbrev pub Ahead : RowOrder → Contender → Contender → Type 0
 Ahead before x y = before (entry-of x) (entry-of y) ≡ true
 
 module _ (before : RowOrder) (b : Book) (w : ℕ) where
-  pub serving-start : (xs : List Contender) (a : Allotment) → Queued b w (length (b .rows)) xs → NoMember (a .winners .word) →
+  pub serving-start : (xs : List Contender) (a : Allotment) → Waiting b w (length (b .rows)) xs → NoMember (a .winners .word) →
       NoMember (a .taken .word) → Serving before b w xs a
-  serving-start xs a queue nobody nothing = record {
-    mid = midway-start before b w (Waits xs) (a .winners .word) (λ j. ((λ h. queue .part j h .1), (λ t. queue .all j (t .exists) t))) nobody;
+  serving-start xs a waiting nobody nothing = record {
+    mid = midway-start before b w (Waits xs) (a .winners .word) (λ j. ((λ h. waiting .part j h .1), (λ t. waiting .all j (t .exists) t))) nobody;
     items = taken-none b (a .winners .word) (a .taken .word) nobody nothing;
-    sees = queue .sees;
-    distinct = queue .distinct;
+    sees = waiting .sees;
+    distinct = waiting .distinct;
   }
 
   pub serving-end : (xs : List Contender) (a : Allotment) → Serving before b w xs a → length xs ≡ 0 → IsGreedy before b w (a .winners .word)

@@ -2,4 +2,4 @@ pub mod Feasible
 pub mod Laws
 pub mod Greedy
 pub mod Allotments
-pub mod Queues
+pub mod WaitingLists

@@ -3,7 +3,7 @@ ghost use Rattle.book.specs.Views.{closed-view};
 ghost use Rattle.rules.specs.Greedy.{IsGreedy, greedy, GreedyTheorems};
 use crate::allotment::Allotment;
 use crate::interface::AllocationRule;
-use crate::queue::Queue;
+use crate::waiting::Contenders;
 use book::ClosedBook;
 use ranking::RankedOrder;
 use ranking::Ranking;
@@ -22,10 +22,10 @@ impl<R: Ranking> Greedy<R> {
         ensures turns { λ r. ⌜ IsGreedy (before (now (self .entry) .ranking)) (closed-view (now (book .entry))) (admitted .word) (r .word) ⌝ }
         ensures theorems { λ _. ⌜ GreedyTheorems (before (now (self .entry) .ranking)) ⌝ }
     {
-        let mut queue = Queue::of(book, admitted);
+        let mut waiting = Contenders::of(book, admitted);
         let mut allotment = Allotment::none();
-        while let Some(place) = first(&self.ranking, queue.as_slice()) {
-            let next = queue.swap_remove(place).number;
+        while let Some(place) = first(&self.ranking, waiting.as_slice()) {
+            let next = waiting.swap_remove(place).number;
             allotment = allotment.offer(next, book.rows()[next].bundle);
         }
         allotment.winners

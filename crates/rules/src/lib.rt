@@ -2,7 +2,7 @@
 mod allotment;
 mod by_ranking;
 mod interface;
-mod queue;
+mod waiting;
 
 pub use by_ranking::Greedy;
 pub use by_ranking::GreedyClone;

@@ -8,7 +8,7 @@ mod methods;
 
 /// Contenders that wait for their turn, in no order.
 #[derive(Clone, Copy)]
-pub(crate) struct Queue {
+pub(crate) struct Contenders {
     len: usize,
     cells: [Contender; ROW_LIMIT],
     ghost few: { len ≤ 64 },

@@ -4,37 +4,37 @@ use mathlib.Core.Path.{_≡_, subst}
 use Prim.Native.Nat.{_+_, _-_}
 use lib.ListN.{getD, set, take}
 use Rattle.std.proofs.shelf.Lists.{getD-default}
-use Rattle.rules.specs.Queues.{queued, Removes}
-use Rattle.rules.proofs.Queueing.{queued-length, removes}
-use Rattle.rules.proofs.queue.Queue.swap_remove.Needs as need
+use Rattle.rules.specs.WaitingLists.{members, Removes}
+use Rattle.rules.proofs.WaitingLists.{members-length, removes}
+use Rattle.rules.proofs.waiting.Contenders.swap_remove.Needs as need
 
 pub offset-self-place : need.offset-self-place
-offset-self-place c = let n = queued-length (c .args .self .now) in search needs
+offset-self-place c = let n = members-length (c .args .self .now) in search needs
 
 pub listed : need.listed
-listed c = let n = queued-length (c .args .self .now) in search needs
+listed c = let n = members-length (c .args .self .now) in search needs
 
 pub index-self-place : need.index-self-place
-index-self-place c = let n = queued-length (c .args .self .now) in search needs
+index-self-place c = let n = members-length (c .args .self .now) in search needs
 
 pub sub-self : need.sub-self
-sub-self c = let n = queued-length (c .args .self .now) in search needs
+sub-self c = let n = members-length (c .args .self .now) in search needs
 
 pub offset-self-place-2 : need.offset-self-place-2
-offset-self-place-2 c = let n = queued-length (c .args .self .now) in search needs
+offset-self-place-2 c = let n = members-length (c .args .self .now) in search needs
 
 pub listed-3 : need.listed-3
-listed-3 c = let n = queued-length (c .args .self .now) in search needs
+listed-3 c = let n = members-length (c .args .self .now) in search needs
 
 pub index-self-place-2 : need.index-self-place-2
-index-self-place-2 c = let n = queued-length (c .args .self .now) in search needs
+index-self-place-2 c = let n = members-length (c .args .self .now) in search needs
 
 pub returns : need.returns
-unfolding queued
+unfolding members
 returns c =
     let q = c .args .self .now in
     let cells = q .cells in
-    let n = queued-length q in
+    let n = members-length q in
     let inside = c .pre in
     let long : q .len - 1 + 1 ≡ q .len = omega arith in
     let out = c .index-self-place .result in

@@ -1,4 +1,4 @@
--- Contenders that come into the queue and leave it.
+-- Contenders come to wait, and leave.
 use mathlib.Core.Path.{_≡_, refl, sym, ap, subst, _∙_}
 use mathlib.Core.List.{List, [], _∷_, _++_}
 use mathlib.Core.Logic.{_⊎_, inl, inr, ⊎-elim}
@@ -12,13 +12,13 @@ use Rattle.std.specs.shelf.Lists.{Has as Holds}
 use Rattle.book.specs.Model.{Book}
 use Rattle.ranking.specs.declared.contenders.Contender.{Contender}
 use Rattle.ranking.specs.Views.{entry-of, seen}
-use Rattle.rules.specs.declared.queue.Queue.{Queue}
+use Rattle.rules.specs.declared.waiting.Contenders.{Contenders}
 use Rattle.rules.specs.Laws.{TakesPart}
-use Rattle.rules.specs.Queues.{queued, Queued, Distinct, Removes}
+use Rattle.rules.specs.WaitingLists.{members, Waiting, Distinct, Removes}
 
-pub queued-length : (q : Queue) → length (queued q) ≡ q .len
-unfolding queued
-queued-length q = length-take-le (q .len) (q .cells) (omega arith)
+pub members-length : (q : Contenders) → length (members q) ≡ q .len
+unfolding members
+members-length q = length-take-le (q .len) (q .cells) (omega arith)
 
 -- the last of the first n + 1 goes to place p
 pub removes : (cells : List Contender) (n p : ℕ) (x y : Contender) → n < length cells → p < n + 1 →
@@ -37,20 +37,20 @@ removes cells n p x y room inside out last =
           getD-take n (set cells p y) q d (omega arith) ∙ getD-set-other cells p q y d ne ∙ sym (getD-take (n + 1) cells q d (omega arith));
     }
 
--- ---- the queue of those who take part, one bidder more at a time
+-- ---- those who take part, one bidder more at a time
 
 module _ (b : Book) (w : ℕ) where
-  pub queued-none : Queued b w 0 []
-  queued-none = record {
+  pub waiting-none : Waiting b w 0 []
+  waiting-none = record {
     sees = λ x at. absurd (omega (arith, at .1));
     part = λ j h. absurd (omega (arith, h .1 .1));
     all = λ j h. absurd (omega arith);
     distinct = λ p q d h. absurd (omega arith);
   }
 
-  module _ (n : ℕ) (xs : List Contender) (so-far : Queued b w n xs) where
-    pub queued-pass : (TakesPart b w n → ⊥) → Queued b w (n + 1) xs
-    queued-pass absent = record {
+  module _ (n : ℕ) (xs : List Contender) (so-far : Waiting b w n xs) where
+    pub waiting-pass : (TakesPart b w n → ⊥) → Waiting b w (n + 1) xs
+    waiting-pass absent = record {
       sees = so-far .sees;
       part = λ j h. let old = so-far .part j h in (omega (arith, old .0), old .1);
       all = λ j h t. ⊎-elim (λ (e : j ≡ n). absurd (absent (subst (TakesPart b w) e t))) (λ ne. so-far .all j (omega arith) t) (cases-eq j n);
@@ -78,9 +78,9 @@ module _ (b : Book) (w : ℕ) where
           inr (old, same, subst (λ (y : Contender). y .number < n) (sym same) low))
           (cases-eq p (length xs))
 
-      pub queued-push : Queued b w (n + 1) (xs ++ x ∷ [])
+      pub waiting-push : Waiting b w (n + 1) (xs ++ x ∷ [])
       unfolding At
-      queued-push = record {
+      waiting-push = record {
         sees = λ y at.
             ⊎-elim (so-far .sees y)
             (λ (same : x ≡ y). subst (λ (z : Contender). entry-of z ≡ seen b (z .number)) same (e ∙ ap (seen b) (sym number-x)))

@@ -6,8 +6,8 @@ ghost use Rattle.std.specs.Orderings.{Decides};
 ghost use Rattle.book.specs.Views.{closed-view};
 ghost use Rattle.ranking.specs.Views.{entry-of, seen};
 ghost use Rattle.rules.specs.Laws.{TakesPart};
-ghost use Rattle.rules.specs.Queues.{queued, Queued, Removes};
-use crate::queue::Queue;
+ghost use Rattle.rules.specs.WaitingLists.{members, Waiting, Removes};
+use crate::waiting::Contenders;
 use book::ClosedBook;
 use book::Mark;
 use book::MarkPartialEq;
@@ -15,43 +15,43 @@ use book::ROW_LIMIT;
 use ranking::Contender;
 use sets::BidderSet;
 
-impl Queue {
+impl Contenders {
     /// All who take part.
-    pub(crate) fn of(book: &ClosedBook, admitted: BidderSet) -> Queue
-        ensures { λ r. ⌜ Queued (closed-view (now (book .entry))) (admitted .word) (length (closed-view (now (book .entry)) .rows)) (queued r) ⌝ }
+    pub(crate) fn of(book: &ClosedBook, admitted: BidderSet) -> Contenders
+        ensures { λ r. ⌜ Waiting (closed-view (now (book .entry))) (admitted .word) (length (closed-view (now (book .entry)) .rows)) (members r) ⌝ }
     {
-        let mut queue = Queue::empty();
+        let mut waiting = Contenders::empty();
         for bidder in 0..book.len() {
             if takes_part(book, admitted, bidder) {
-                queue.push(contender(book, bidder));
+                waiting.push(contender(book, bidder));
             }
         }
-        queue
+        waiting
     }
 
-    fn empty() -> Queue
-        ensures { λ r. ⌜ queued r ≡ [] ⌝ }
+    fn empty() -> Contenders
+        ensures { λ r. ⌜ members r ≡ [] ⌝ }
     {
         let unused = Contender {
             value: 0,
             size: 1,
             number: 0,
         };
-        Queue {
+        Contenders {
             len: 0,
             cells: [unused; ROW_LIMIT],
         }
     }
 
     pub(crate) fn as_slice(&self) -> &[Contender]
-        ensures { λ r. ⌜ now r ≡ queued (now (self .entry)) ⌝ }
+        ensures { λ r. ⌜ now r ≡ members (now (self .entry)) ⌝ }
     {
         &self.cells[0..self.len]
     }
 
     fn push(&mut self, next: Contender)
-        requires { ⌜ length (queued (now self)) < 64 ⌝ }
-        ensures { λ _. ⌜ queued (now (self .exit)) ≡ queued (now (self .entry)) ++ next ∷ [] ⌝ }
+        requires { ⌜ length (members (now self)) < 64 ⌝ }
+        ensures { λ _. ⌜ members (now (self .exit)) ≡ members (now (self .entry)) ++ next ∷ [] ⌝ }
     {
         self.cells[self.len] = next;
         self.len += 1;
@@ -59,8 +59,8 @@ impl Queue {
 
     /// Takes out the contender at `place`; the last one comes to stand there.
     pub(crate) fn swap_remove(&mut self, place: usize) -> Contender
-        requires { ⌜ place < length (queued (now self)) ⌝ }
-        ensures { λ r. ⌜ Removes (queued (now (self .entry))) place r (queued (now (self .exit))) ⌝ }
+        requires { ⌜ place < length (members (now self)) ⌝ }
+        ensures { λ r. ⌜ Removes (members (now (self .entry))) place r (members (now (self .exit))) ⌝ }
     {
         let removed = self.cells[place];
         self.len -= 1;

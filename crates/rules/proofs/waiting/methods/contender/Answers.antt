@@ -2,7 +2,7 @@ use borrow.Author.Needs.{needs}
 use Rattle.book.specs.Views.{closed-view}
 use Rattle.book.proofs.Kept.{closed-within}
 use Rattle.ranking.proofs.Seen.{seen-possible}
-use Rattle.rules.proofs.queue.methods.contender.Needs as need
+use Rattle.rules.proofs.waiting.methods.contender.Needs as need
 
 pub ghost-result : need.ghost-result
 ghost-result c =

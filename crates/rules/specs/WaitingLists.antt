@@ -7,11 +7,12 @@ use Rattle.std.specs.shelf.Lists.{Has as Holds}
 use Rattle.book.specs.Model.{Book}
 use Rattle.ranking.specs.declared.contenders.Contender.{Contender}
 use Rattle.ranking.specs.Views.{entry-of, seen}
-use Rattle.rules.specs.declared.queue.Queue.{Queue}
+use Rattle.rules.specs.declared.waiting.Contenders.{Contenders}
 use Rattle.rules.specs.Laws.{TakesPart}
 
-unfoldable pub queued : Queue → List Contender
-queued q = take (q .len) (q .cells)
+-- the cells in use
+unfoldable pub members : Contenders → List Contender
+members q = take (q .len) (q .cells)
 
 -- no two have one number
 abbrev pub Distinct : List Contender → Type 0
@@ -22,7 +23,7 @@ abbrev pub Waits : List Contender → ℕ → Type 0
 Waits xs j = (x : Contender) × Holds xs x × (x .number ≡ j)
 
 -- xs has each of the first n bidders who take part, once, as a ranking sees it, and nobody else
-pub record Queued (b : Book) (admitted n : ℕ) (xs : List Contender) : Type 0 where
+pub record Waiting (b : Book) (admitted n : ℕ) (xs : List Contender) : Type 0 where
   pub sees : (x : Contender) → Holds xs x → entry-of x ≡ seen b (x .number)
   pub part : (j : ℕ) → Waits xs j → (j < n) × TakesPart b admitted j
   pub all : (j : ℕ) → j < n → TakesPart b admitted j → Waits xs j
