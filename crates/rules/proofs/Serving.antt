@@ -52,11 +52,14 @@ module _ (before : RowOrder) (b : Book) (w : ℕ) where
     at-p : Holds xs x
     at-p = (p, is-first .inside, removed .out)
 
-    pub next-waits : Waits xs (x .number)
+    next-waits : Waits xs (x .number)
     next-waits = (x, at-p, refl)
 
     pub next-exists : x .number < length (b .rows)
     next-exists = serving .mid .part (x .number) next-waits .exists
+
+    low : x .number < 64
+    low = let few = limits .few-rows in omega (arith, next-exists)
 
     first : (k : ℕ) → Waits xs k → (k ≡ x .number → ⊥) → Before before b (x .number) k
     first k (y, (q, inside, is), num) ne =
@@ -79,8 +82,8 @@ module _ (before : RowOrder) (b : Book) (w : ℕ) where
           (y, left-removed xs ys p x removed (is-first .inside) (serving .distinct) y (h .0 .1) (λ e. h .1 (sym (h .0 .2) ∙ e)), h .0 .2)),
     )
 
-    pub serving-next : (r : Allotment) → x .number < 64 → Offers a (x .number) (row b (x .number) .bundle .word) r → Serving before b w ys r
-    serving-next r low offers = record {
+    pub serving-next : (r : Allotment) → Offers a (x .number) (row b (x .number) .bundle .word) r → Serving before b w ys r
+    serving-next r offers = record {
       mid = ⊎-elim
           (λ clash. subst (λ (z : Allotment). Midway before b w (Waits ys) (z .winners .word)) (sym (clash .1))
           (midway-skip before b w ranks limits (Waits xs) (Waits ys) winners j (serving .mid) next-waits first rest

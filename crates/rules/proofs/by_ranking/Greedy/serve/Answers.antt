@@ -60,11 +60,8 @@ loop-place-again g c w waiting =
     let x = c .swap-remove-next .result in
     let a = c .loop-place .allotment in
     let is-first = subst (λ (l : List Contender). FirstOf (Ahead before) l p) (c .as-slice .ensures) (c .in-Some .ensures tt) in
-    let inside = next-exists before b w (g .R·Ranking·met .ranks ranking) (closed-within book) xs (members (c .swap-remove-next .last .self)) p x a (c .loop-place .inv w waiting) is-first
-    (c .swap-remove-next .ensures) in
-    let limit = closed-within book .few-rows in
     serving-next before b w (g .R·Ranking·met .ranks ranking) (closed-within book) xs (members (c .swap-remove-next .last .self)) p x a (c .loop-place .inv w waiting) is-first
-    (c .swap-remove-next .ensures) (c .offer-allotment .result) (omega arith)
+    (c .swap-remove-next .ensures) (c .offer-allotment .result)
     (subst (λ (rows : List Row). Offers a (x .number) (getD rows (x .number) blank .bundle .word) (c .offer-allotment .result)) (c .rows .ensures .value) (c .offer-allotment .ensures))
 
 pub returns : need.returns
