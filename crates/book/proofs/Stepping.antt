@@ -43,7 +43,7 @@ not-withdrawn : (m : Mark) → Decides (isStanding m) (m ≡ Withdrawn → ⊥)
 not-withdrawn Standing = ((λ _ e. false≢true (sym (ap isStanding e))), (λ _. refl))
 not-withdrawn Withdrawn = ((λ e _. false≢true e), (λ h. absurd (h refl)))
 
-stands-passes : (b : Book) (j : ℕ) → Decides (stands b j) ((length (b .rows) ≤ j → ⊥) × (row b j .mark ≡ Withdrawn → ⊥))
+pub stands-passes : (b : Book) (j : ℕ) → Decides (stands b j) ((length (b .rows) ≤ j → ⊥) × (row b j .mark ≡ Withdrawn → ⊥))
 stands-passes b j = (
   (λ yea.
       let parts = and-parts _ _ yea in

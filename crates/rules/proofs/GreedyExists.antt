@@ -1,12 +1,12 @@
 -- The rule `greedy` gives the greedy word of every book that can exist.
 use mathlib.Core.Bool.{_&&_}
 use mathlib.Core.Logic.{_↔_}
-use mathlib.Core.Path.{_≡_, refl, ap}
+use mathlib.Core.Path.{_≡_, refl, sym, ap, _∙_}
 use Prim.Native.Nat.{ℕ, zero, suc, _<_}
 use native.Mathlib.Omega.{arith}
 use lib.ListN.{length}
 use Rattle.std.specs.Orderings.{Decides}
-use Rattle.std.proofs.shelf.Tests.{and-from, and-parts, ltb-true, lt-ltb, eqb-true, eq-eqb, false≢true}
+use Rattle.std.proofs.shelf.Tests.{and-from, and-parts, eqb-true, eq-eqb, false≢true}
 use Rattle.sets.specs.Members.{Has, has, Within}
 use Rattle.sets.proofs.Selected.{those-selects}
 use Rattle.sets.proofs.Words.{zero-none}
@@ -15,6 +15,7 @@ use Rattle.book.specs.declared.row.Mark.the-variants.{Standing, Withdrawn}
 use Rattle.book.specs.Limits.{WithinLimits}
 use Rattle.book.specs.Model.{Book, row}
 use Rattle.book.specs.Runs.{isStanding, stands}
+use Rattle.book.proofs.Stepping.{stands-passes}
 use Rattle.ranking.specs.Rankings.{RowOrder, Ranks}
 use Rattle.rules.specs.Feasible.{fits-beside}
 use Rattle.rules.specs.Greedy.{ahead, IsGreedy, turn, repeat, greedy, GreedyTheorems}
@@ -24,15 +25,15 @@ use Rattle.rules.specs.Laws.{Asked}
 use Rattle.rules.proofs.GreedyLaws.{Chosen, follows, one-greedy, greedy-lawful}
 use Rattle.rules.proofs.Turns.{Before, rank, rank-lt, rank-below}
 
-decides-standing : (m : Mark) → Decides (isStanding m) (m ≡ Standing)
-decides-standing Standing = ((λ _. refl), (λ _. refl))
-decides-standing Withdrawn = ((λ e. absurd (false≢true e)), (λ e. ap isStanding e))
+standing : (m : Mark) → (m ≡ Withdrawn → ⊥) → m ≡ Standing
+standing Standing there = refl
+standing Withdrawn there = absurd (there refl)
 
 decides-stands : (b : Book) (j : ℕ) → Decides (stands b j) ((j < length (b .rows)) × (row b j .mark ≡ Standing))
 decides-stands b j =
-    let mark = decides-standing (row b j .mark) in (
-      (λ yea. let parts = and-parts _ _ yea in (ltb-true j (length (b .rows)) (parts .0), mark .0 (parts .1))),
-      (λ h. and-from _ _ (lt-ltb j (length (b .rows)) (h .0)) (mark .1 (h .1))),
+    let passes = stands-passes b j in (
+      (λ yea. let h = passes .0 yea in (omega (arith, h .0), standing (row b j .mark) (h .1))),
+      (λ h. passes .1 ((λ past. omega (arith, h .0)), λ gone. false≢true (ap isStanding (sym gone ∙ h .1)))),
     )
 
 module _ (before : RowOrder) (b : Book) (w : ℕ) where

@@ -15,14 +15,13 @@ use Rattle.ranking.specs.Rankings.{RowOrder, Ranks}
 use Rattle.rules.specs.Feasible.{Fits, FitsBeside}
 use Rattle.rules.specs.Greedy.{ahead, IsGreedy}
 use Rattle.rules.specs.Laws.{Rule, TakesPart, Asked, Raises, Lawful}
-use Rattle.rules.proofs.Ahead.{ahead-parts, ahead-from, ahead-inside}
+use Rattle.rules.proofs.Ahead.{ChosenAt, ahead-parts, ahead-from, ahead-inside}
 use Rattle.rules.proofs.Feasibility.{Inside, fits-none, fits-with, beside-part, beside-own, fits-revalued, beside-revalued}
 use Rattle.rules.proofs.Raising.{part-revalued, still-before, was-before}
 use Rattle.rules.proofs.Turns.{Before, by-rank, find-last}
 
--- r has exactly those who take part and fit beside the members of u that come before them; IsGreedy is the case of r = u
 abbrev pub Chosen : RowOrder → Book → ℕ → ℕ → ℕ → Type 0
-Chosen before b w u r = (j : ℕ) → Has r j ↔ (TakesPart b w j × FitsBeside b (ahead before b u j) j)
+Chosen before b w u r = (j : ℕ) → ChosenAt before b w u r j
 
 module _ (before : RowOrder) where
   -- where u has every member of u′ that comes before j, j is chosen beside u′ if it is beside u

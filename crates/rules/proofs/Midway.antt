@@ -11,13 +11,13 @@ use Rattle.ranking.specs.Rankings.{RowOrder, Ranks}
 use Rattle.rules.specs.Feasible.{FitsBeside}
 use Rattle.rules.specs.Greedy.{IsGreedy, ahead}
 use Rattle.rules.specs.Laws.{TakesPart}
-use Rattle.rules.proofs.Ahead.{ahead-parts, ahead-from, ahead-inside}
+use Rattle.rules.proofs.Ahead.{ChosenAt, ahead-parts, ahead-from, ahead-inside}
 use Rattle.rules.proofs.Feasibility.{Inside, beside-part}
 use Rattle.rules.proofs.Turns.{Before, never-self, one-way}
 
--- j wins exactly if it takes part and fits beside the winners that come before it
+-- it is known of j whether it wins
 abbrev Settled : RowOrder → Book → ℕ → ℕ → ℕ → Type 0
-Settled before b w winners j = Has winners j ↔ (TakesPart b w j × FitsBeside b (ahead before b winners j) j)
+Settled before b w winners j = ChosenAt before b w winners winners j
 
 pub record Midway (before : RowOrder) (b : Book) (w : ℕ) (Waiting : ℕ → Type 0) (winners : ℕ) : Type 0 where
   pub part : (j : ℕ) → Waiting j → TakesPart b w j

@@ -1,4 +1,4 @@
--- What holds from turn to turn of the waiting, the winners and the items that they take.
+-- What holds from turn to turn of those who wait, of the winners, and of the items that they take.
 use mathlib.Core.Bool.{true}
 use mathlib.Core.List.{List}
 use mathlib.Core.Logic.{_↔_, ⊎-elim}
