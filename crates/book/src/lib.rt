@@ -1,4 +1,6 @@
 //! The bid book: the rows that bidders enter, revise and withdraw, and the closed book that awards are made from.
+#![tactic(auto)]
+
 mod call;
 mod closed;
 mod ledger;

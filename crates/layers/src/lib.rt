@@ -1,4 +1,6 @@
 //! Layers over any allocation rule: the better of two rules, and a rule that is shown only the bidders whose bundle passes a test.
+#![tactic(auto)]
+
 mod better_of_two;
 mod bundle_tests;
 mod filters;

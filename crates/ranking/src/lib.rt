@@ -1,4 +1,6 @@
 //! Orders, the first of a slice under an order, and rankings: orders of rows in which a greater value never loses a place.
+#![tactic(auto)]
+
 mod contenders;
 mod orders;
 mod rankings;

@@ -1,4 +1,6 @@
 //! Allocation rules: from a closed book and a set of admitted bidders to the winners.
+#![tactic(auto)]
+
 mod allotment;
 mod best_of_few;
 mod by_ranking;

@@ -1,5 +1,7 @@
 //! Tests of rankings, greedy awards, the best of few, layers over rules and `award`, with an order, a ranking, a bundle test and an
 //! allocation rule written by a user of the library. What they expect is what docs/RULES.md says, worked out by hand.
+#![tactic(auto)]
+
 #[cfg(test)]
 mod awards;
 #[cfg(test)]

@@ -1,4 +1,6 @@
 //! Who wins a round.
+#![tactic(auto)]
+
 mod awards;
 
 pub use awards::award;

@@ -1,5 +1,7 @@
 //! A round of bidding over a small book: each call is printed with what it answered, then the rows of the closed book, then the winners
 //! under each ranking.
+#![tactic(auto)]
+
 use book::{Answer, Call, ClosedBook, Mark, OpenBook, Refusal, Row};
 use ranking::{ByItem, ByRoot, ByValue};
 use rules::{AllocationRule, Greedy};
