@@ -8,7 +8,7 @@ use Rattle.rules.specs.Choices.{chosen, blank}
 use Rattle.rules.proofs.Extending.{Gathered, best_none, gathered_start, gathered_pass, gathered_join, gathered_end}
 use Rattle.rules.proofs.Growing.{sum_fits, sound_grown}
 use Rattle.rules.proofs.best_of_few.+extend.Goals as goal
-use Rattle.rules.proofs.best_of_few.+extend.Goals.{in-Some, in-default}
+use Rattle.rules.proofs.best_of_few.+extend.Goals.{in-Some, in_default}
 
 pub returns-then-more-eq0 : goal.returns-then-more-eq0
 returns-then-more-eq0 t c =
@@ -74,8 +74,8 @@ loop-bidder-preserved t c =
                 grows.grants.0 best.sound best.first,
             length-set _ _ _ ∙ long,
           )
-      | in-default w' ↦
-          let barred = w'.in-default.ensures in
+      | in_default w' ↦
+          let barred = w'.in_default.ensures in
           subst Holds (sym w'.choices-is) (gathered_pass b limits w from more choice sound choices n so_far new barred, long)
     ]
 

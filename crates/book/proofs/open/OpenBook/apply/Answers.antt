@@ -17,18 +17,18 @@ entered : (c : After-enter) (r : Result Answer Refusal) → r ≡ result_map_bot
 entered c r is =
     applied (Enter c.in-Enter.bundle c.in-Enter.value) c.args.call Entered _ (view c.args.self.now) c.enter.result r (view c.enter.new.self) c.in-Enter.is refl is c.enter.ensures
 
-pub returns-in-err-enter : goal.returns-in-err-enter
-returns-in-err-enter c =
-    let p = err_from_is_err_and c.from-residual-in-err-enter.result c.from-residual-in-err-enter.ensures.1 in
+pub returns-in_err-enter-in-Enter : goal.returns-in_err-enter-in-Enter
+returns-in_err-enter-in-Enter c =
+    let p = err_from_is_err_and c.from_residual-in_err-enter-in-Enter.result c.from_residual-in_err-enter-in-Enter.ensures.1 in
     let done =
-    entered (goal.at.returns-in-err-enter c).After-enter c.from-residual-in-err-enter.result
-    (p.1 ∙ ap Err p.2 ∙ sym (ap (result_map_both Entered (λ e. e)) c.in-err-enter.was))
+    entered (goal.at.returns-in_err-enter-in-Enter c).After-enter c.from_residual-in_err-enter-in-Enter.result
+    (p.1 ∙ ap Err p.2 ∙ sym (ap (result_map_both Entered (λ e. e)) c.in_err-enter-in-Enter.was))
     in
     record { served = done.0; stepped = done.1 }
 
-pub returns-in-ok-enter : goal.returns-in-ok-enter
-returns-in-ok-enter c =
+pub returns-in_ok-enter-in-Enter : goal.returns-in_ok-enter-in-Enter
+returns-in_ok-enter-in-Enter c =
     let done =
-    entered (goal.at.returns-in-ok-enter c).After-enter _ (sym (ap (result_map_both Entered (λ e. e)) c.in-ok-enter.was))
+    entered (goal.at.returns-in_ok-enter-in-Enter c).After-enter _ (sym (ap (result_map_both Entered (λ e. e)) c.in_ok-enter-in-Enter.was))
     in
     record { served = done.0; stepped = done.1 }

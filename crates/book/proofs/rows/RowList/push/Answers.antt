@@ -7,8 +7,8 @@ use Rattle.book.proofs.rows.RowList.push.Goals as goal
 pub bounds-self-self : goal.bounds-self-self
 bounds-self-self c = let n = listed_length c.args.self.now in search rules
 
-pub invariant-of-self : goal.invariant-of-self
-invariant-of-self c = let n = listed_length c.args.self.now in search rules
+pub invariant_of-self : goal.invariant_of-self
+invariant_of-self c = let n = listed_length c.args.self.now in search rules
 
 pub returns : goal.returns
 unfolding listed

@@ -4,8 +4,8 @@ use Rattle.book.specs.Listed.{listed}
 use Rattle.book.proofs.Used.{listed_length}
 use Rattle.book.proofs.rows.RowList.set.Goals as goal
 
-pub offset-bounds-self-place : goal.offset-bounds-self-place
-offset-bounds-self-place c = let n = listed_length c.args.self.now in search rules
+pub offset_bounds-self-place : goal.offset_bounds-self-place
+offset_bounds-self-place c = let n = listed_length c.args.self.now in search rules
 
 pub bounds-self-place : goal.bounds-self-place
 bounds-self-place c = let n = listed_length c.args.self.now in search rules

@@ -31,8 +31,8 @@ exists g c =
     next_exists before (closed_view book) w (g.met.R.Ranking.ranks ranking) (closed_within book) xs (members c.swap-remove-next.new.self) p c.swap-remove-next.result
     c.loop-place.allotment (c.loop-place.invariant w c.of-waiting.ensures) is_first c.swap-remove-next.ensures
 
-pub offset-bounds-rows-next : goal.offset-bounds-rows-next
-offset-bounds-rows-next g c = let inside = exists g c in let limits = (closed_within c.args.book.now).few_rows in search rules
+pub offset_bounds-rows-next : goal.offset_bounds-rows-next
+offset_bounds-rows-next g c = let inside = exists g c in let limits = (closed_within c.args.book.now).few_rows in search rules
 
 pub bounds-rows-next : goal.bounds-rows-next
 bounds-rows-next g c = let inside = exists g c in let same = ap length c.rows.ensures.value in search rules
@@ -67,7 +67,7 @@ returns g c =
     let b = closed_view book in
     let w = c.args.admitted.word in
     let asked : Asked b w = record { limits = closed_within book; word = search rules } in
-    let empty : length (members c.loop-place.waiting) ≡ 0 = subst (λ (l : List Contender). length l ≡ 0) c.as-slice.ensures c.in-default.ensures in
+    let empty : length (members c.loop-place.waiting) ≡ 0 = subst (λ (l : List Contender). length l ≡ 0) c.as-slice.ensures c.in_default.ensures in
     let turns = serving_end before b w (members c.loop-place.waiting) c.loop-place.allotment (c.loop-place.invariant w c.of-waiting.ensures) empty in
     let theorems = greedy_theorems before (g.met.R.Ranking.ranks ranking) in
     record { rule = theorems.one b w _ _ asked turns (theorems.found b w asked); turns = turns; theorems = theorems }

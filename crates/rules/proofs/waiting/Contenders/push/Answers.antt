@@ -10,8 +10,8 @@ listed c = let n = members_length c.args.self.now in search rules
 pub bounds-self-self : goal.bounds-self-self
 bounds-self-self c = let n = members_length c.args.self.now in search rules
 
-pub invariant-of-self : goal.invariant-of-self
-invariant-of-self c = let n = members_length c.args.self.now in search rules
+pub invariant_of-self : goal.invariant_of-self
+invariant_of-self c = let n = members_length c.args.self.now in search rules
 
 pub returns : goal.returns
 unfolding members

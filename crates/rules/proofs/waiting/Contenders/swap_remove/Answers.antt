@@ -4,8 +4,8 @@ use Rattle.rules.specs.WaitingLists.{members, Removes}
 use Rattle.rules.proofs.WaitingLists.{members_length, removes}
 use Rattle.rules.proofs.waiting.Contenders.swap_remove.Goals as goal
 
-pub offset-bounds-self-place : goal.offset-bounds-self-place
-offset-bounds-self-place c = let n = members_length c.args.self.now in search rules
+pub offset_bounds-self-place : goal.offset_bounds-self-place
+offset_bounds-self-place c = let n = members_length c.args.self.now in search rules
 
 pub listed : goal.listed
 listed c = let n = members_length c.args.self.now in search rules
@@ -13,11 +13,11 @@ listed c = let n = members_length c.args.self.now in search rules
 pub bounds-self-place : goal.bounds-self-place
 bounds-self-place c = let n = members_length c.args.self.now in search rules
 
-pub overflow-sub-self : goal.overflow-sub-self
-overflow-sub-self c = let n = members_length c.args.self.now in search rules
+pub overflow_sub-self : goal.overflow_sub-self
+overflow_sub-self c = let n = members_length c.args.self.now in search rules
 
-pub offset-bounds-self-place-2 : goal.offset-bounds-self-place-2
-offset-bounds-self-place-2 c = let n = members_length c.args.self.now in search rules
+pub offset_bounds-self-place-2 : goal.offset_bounds-self-place-2
+offset_bounds-self-place-2 c = let n = members_length c.args.self.now in search rules
 
 pub listed-3 : goal.listed-3
 listed-3 c = let n = members_length c.args.self.now in search rules

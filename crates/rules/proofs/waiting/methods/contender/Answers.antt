@@ -4,8 +4,8 @@ use Rattle.book.proofs.Kept.{closed_within}
 use Rattle.ranking.proofs.Seen.{seen_possible}
 use Rattle.rules.proofs.waiting.methods.contender.Goals as goal
 
-pub invariant-of-result : goal.invariant-of-result
-invariant-of-result c =
+pub invariant_of-result : goal.invariant_of-result
+invariant_of-result c =
     let b = closed_view c.args.book.now in
     let fine = seen_possible b (closed_within c.args.book.now) c.args.bidder c.requires in
     let priced = fine.priced in
