@@ -6,7 +6,7 @@ use Rattle.sets.proofs.Words.{below_within, none_zero}
 use Rattle.book.specs.declared.closed.ClosedBook.{ClosedBook}
 use Rattle.book.specs.declared.row.Row.{Row}
 use Rattle.book.specs.Limits.{RowWithinLimits, WithinLimits, Kept, EachKept}
-use Rattle.book.specs.Model.{book, blank}
+use Rattle.book.specs.Model.{blank}
 use Rattle.book.specs.Views.{closed_view}
 use Rattle.book.proofs.Used.{listed_length}
 

@@ -14,11 +14,11 @@ pub struct Better<A: AllocationRule, B: AllocationRule> {
 }
 
 impl<A: AllocationRule, B: AllocationRule> AllocationRule for Better<A, B> {
-    ghost winners = { λ s. better (A.AllocationRule.winners s.first) (B.AllocationRule.winners s.second) };
+    ghost winners = { λ s. better (A.winners s.first) (B.winners s.second) };
 
     fn choose(&self, book: &ClosedBook, admitted: BidderSet) -> BidderSet
-        ensures rule { result.word ≡ better (A.AllocationRule.winners self.now.first) (B.AllocationRule.winners self.now.second) (closed_view book.now) admitted.word }
-        ensures chosen { BetterOf (closed_view book.now) (A.AllocationRule.winners self.now.first (closed_view book.now) admitted.word) (B.AllocationRule.winners self.now.second (closed_view book.now) admitted.word) result.word }
+        ensures rule { result.word ≡ better (A.winners self.now.first) (B.winners self.now.second) (closed_view book.now) admitted.word }
+        ensures chosen { BetterOf (closed_view book.now) (A.winners self.now.first (closed_view book.now) admitted.word) (B.winners self.now.second (closed_view book.now) admitted.word) result.word }
     {
         let first = self.first.choose(book, admitted);
         let second = self.second.choose(book, admitted);

@@ -18,8 +18,8 @@ pub struct Filtered<A: AllocationRule, T: BundleTest> {
 impl<A: AllocationRule, T: BundleTest> Filtered<A, T> {
     /// The admitted bidders but for those whose bundle does not pass.
     fn admit(&self, book: &ClosedBook, admitted: BidderSet) -> BidderSet
-        ensures word { result.word ≡ passing (T.BundleTest.meaning self.now.test) (closed_view book.now) admitted.word }
-        ensures members { Passing (T.BundleTest.meaning self.now.test) (closed_view book.now) admitted.word result.word }
+        ensures word { result.word ≡ passing (T.meaning self.now.test) (closed_view book.now) admitted.word }
+        ensures members { Passing (T.meaning self.now.test) (closed_view book.now) admitted.word result.word }
     {
         let mut left = admitted;
         for (bidder, row) in book.rows().iter().enumerate() {
@@ -32,15 +32,15 @@ impl<A: AllocationRule, T: BundleTest> Filtered<A, T> {
 }
 
 impl<A: AllocationRule, T: BundleTest> AllocationRule for Filtered<A, T> {
-    ghost winners = { λ s. filtered (T.BundleTest.meaning s.test) (A.AllocationRule.winners s.rule) };
+    ghost winners = { λ s. filtered (T.meaning s.test) (A.winners s.rule) };
 
-    ghost monotone = { λ rule. filtered_monotone (T.BundleTest.meaning rule.test) _ (A.AllocationRule.monotone rule.rule) };
+    ghost monotone = { λ rule. filtered_monotone (T.meaning rule.test) _ (A.monotone rule.rule) };
 
-    ghost bitonic = { λ rule. filtered_bitonic (T.BundleTest.meaning rule.test) _ (A.AllocationRule.bitonic rule.rule) };
+    ghost bitonic = { λ rule. filtered_bitonic (T.meaning rule.test) _ (A.bitonic rule.rule) };
 
     fn choose(&self, book: &ClosedBook, admitted: BidderSet) -> BidderSet
-        ensures rule { result.word ≡ filtered (T.BundleTest.meaning self.now.test) (A.AllocationRule.winners self.now.rule) (closed_view book.now) admitted.word }
-        ensures shown { Shown (T.BundleTest.meaning self.now.test) (A.AllocationRule.winners self.now.rule) (closed_view book.now) admitted.word result.word }
+        ensures rule { result.word ≡ filtered (T.meaning self.now.test) (A.winners self.now.rule) (closed_view book.now) admitted.word }
+        ensures shown { Shown (T.meaning self.now.test) (A.winners self.now.rule) (closed_view book.now) admitted.word result.word }
     {
         self.rule.choose(book, self.admit(book, admitted))
     }

@@ -16,7 +16,7 @@ pub trait Order<T> {
 
 /// The place of an item that no other comes before; none if there is no item.
 pub fn first<T, O: Order<T>>(order: &O, items: &[T]) -> Option<usize>
-    ensures { MatchOption result (length items.now ≡ 0) (FirstOf (before order.now) items.now) }
+    ensures { MatchOption result (length items.now ≡ 0) (FirstOf (O.before order.now) items.now) }
 {
     if items.is_empty() {
         return None;
@@ -32,7 +32,7 @@ pub fn first<T, O: Order<T>>(order: &O, items: &[T]) -> Option<usize>
 fn earlier<T, O: Order<T>>(order: &O, items: &[T], a: usize, b: usize) -> usize
     requires a_in_bounds { a < length items.now }
     requires b_in_bounds { b < length items.now }
-    ensures { Earlier (before order.now) items.now a b result }
+    ensures { Earlier (O.before order.now) items.now a b result }
 {
     if order.comes_before(&items[b], &items[a]) {
         b

@@ -18,12 +18,12 @@ pub trait Ranking {
 
 /// Every ranking is an order of contenders.
 impl<R: Ranking> Order<Contender> for R {
-    ghost before = { λ o a b. R.Ranking.before o (entry_of a) (entry_of b) ≡ true };
+    ghost before = { λ o a b. R.before o (entry_of a) (entry_of b) ≡ true };
 
     ghost identity = { λ c. c.number };
 
     ghost ordered = { λ order.
-        let ranks = R.Ranking.ranks order in
+        let ranks = R.ranks order in
         record {
           irreflexive = λ a. ranks.irreflexive (entry_of a) (possible a);
           transitive = λ a b c. ranks.transitive (entry_of a) (entry_of b) (entry_of c) (possible a) (possible b) (possible c);

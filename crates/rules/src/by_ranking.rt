@@ -18,9 +18,9 @@ pub struct Greedy<R: Ranking> {
 
 impl<R: Ranking> Greedy<R> {
     fn serve(&self, book: &ClosedBook, admitted: BidderSet) -> BidderSet
-        ensures rule { result.word ≡ greedy (before self.now.ranking) (closed_view book.now) admitted.word }
-        ensures turns { IsGreedy (before self.now.ranking) (closed_view book.now) admitted.word result.word }
-        ensures theorems { GreedyTheorems (before self.now.ranking) }
+        ensures rule { result.word ≡ greedy (R.before self.now.ranking) (closed_view book.now) admitted.word }
+        ensures turns { IsGreedy (R.before self.now.ranking) (closed_view book.now) admitted.word result.word }
+        ensures theorems { GreedyTheorems (R.before self.now.ranking) }
     {
         let mut waiting = Contenders::of(book, admitted);
         let mut allotment = Allotment::none();
@@ -33,16 +33,16 @@ impl<R: Ranking> Greedy<R> {
 }
 
 impl<R: Ranking> AllocationRule for Greedy<R> {
-    ghost winners = { λ s. greedy (R.Ranking.before s.ranking) };
+    ghost winners = { λ s. greedy (R.before s.ranking) };
 
-    ghost monotone = { λ rule. (greedy_theorems (R.Ranking.before rule.ranking) (R.Ranking.ranks rule.ranking)).lawful.monotone };
+    ghost monotone = { λ rule. (greedy_theorems (R.before rule.ranking) (R.ranks rule.ranking)).lawful.monotone };
 
-    ghost bitonic = { λ rule. (greedy_theorems (R.Ranking.before rule.ranking) (R.Ranking.ranks rule.ranking)).lawful.bitonic };
+    ghost bitonic = { λ rule. (greedy_theorems (R.before rule.ranking) (R.ranks rule.ranking)).lawful.bitonic };
 
     fn choose(&self, book: &ClosedBook, admitted: BidderSet) -> BidderSet
-        ensures rule { result.word ≡ greedy (R.Ranking.before self.now.ranking) (closed_view book.now) admitted.word }
-        ensures turns { IsGreedy (R.Ranking.before self.now.ranking) (closed_view book.now) admitted.word result.word }
-        ensures theorems { GreedyTheorems (R.Ranking.before self.now.ranking) }
+        ensures rule { result.word ≡ greedy (R.before self.now.ranking) (closed_view book.now) admitted.word }
+        ensures turns { IsGreedy (R.before self.now.ranking) (closed_view book.now) admitted.word result.word }
+        ensures theorems { GreedyTheorems (R.before self.now.ranking) }
     {
         self.serve(book, admitted)
     }
