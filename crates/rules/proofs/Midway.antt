@@ -1,5 +1,5 @@
 -- Greedy half way: who has had its turn is settled, and who still waits comes after all of them.
-use Rattle.std.proofs.Common.{◌≡◌, ℕ, ◌<◌, ◌⊎◌, ◌↔◌, length, sym, refl, subst, inl, inr, ⊎_elim}
+use Rattle.std.proofs.Common.{◌≡◌, ℕ, ◌<◌, ◌↔◌, length, sym, refl, subst, inl, inr, ⊎_elim}
 use Rattle.std.proofs.lemmas.Bool.{cases_eq, eqb-true, eq-eqb}
 use Rattle.sets.specs.Members.{Has, has, NoMember, Adds}
 use Rattle.book.specs.Limits.{WithinLimits}

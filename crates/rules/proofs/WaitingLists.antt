@@ -1,5 +1,5 @@
 -- Contenders come to wait, and leave.
-use Rattle.std.proofs.Common.{◌≡◌, ℕ, ◌+◌, ◌-◌, ◌<◌, ◌⊎◌, List, [], ◌∷◌, ◌++◌, length, get_or, take, set, sym, refl, ap, ◌∙◌, subst, inl, inr, ⊎_elim, arith}
+use Rattle.std.proofs.Common.{◌≡◌, ℕ, ◌+◌, ◌<◌, ◌⊎◌, List, [], ◌∷◌, ◌++◌, length, get_or, take, set, sym, refl, ap, ◌∙◌, subst, inl, inr, ⊎_elim, arith}
 use Rattle.std.proofs.lemmas.List.{length-take-le, length-set, length_push, get_or_push, get_or_append_left, get_or-take, get_or-set_same, get_or-set_other}
 use Rattle.std.proofs.ByRecursion.{has_push, has_push_cases, has_append_left, has_get_or}
 use Rattle.std.proofs.lemmas.Bool.{cases_eq}

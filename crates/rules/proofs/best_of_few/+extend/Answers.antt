@@ -26,8 +26,8 @@ loop-bidder-init t c =
       refl,
     )
 
-pub joined-by-requires : goal.joined-by-requires
-joined-by-requires t c =
+pub joined_by-requires : goal.joined_by-requires
+joined_by-requires t c =
     let book = c.args.book.now in
     let n = c.loop-bidder.bidder in
     let exists : n < length (closed_view book).rows = omega (arith, c.len-bidder-end.ensures.value) in
@@ -65,7 +65,7 @@ loop-bidder-preserved t c =
     let low : n < 64 = omega (arith, c.loop-bidder-test.true, c.len-bidder-end.ensures.bound) in
     let some : 1 ≤ more = omega (arith, c.if-more-eq0.false) in
     let Holds : List Choice → Type 0 = λ cs. Gathered b w from more choice cs (n + 1) × (length cs ≡ 65) in
-    elim c.match-joined-by.branch [
+    elim c.match-joined_by.branch [
       | in-Some w' ↦
           let grows = w'.in-Some.ensures.1 in
           let best = w'.extend.ensures in
@@ -84,5 +84,5 @@ returns t c =
     let book = c.args.book.now in
     let (so_far, long) = c.loop-bidder.invariant in
     let (sound, best) = gathered_end (closed_view book) (closed_within book) c.args.admitted.word c.args.from c.args.more c.args.choice c.requires.sound c.loop-bidder.choices
-    c.loop-bidder.bidder so_far long (omega (arith, c.len-bidder-end.ensures.value)) c.first-of.result c.first-of.ensures in
+    c.loop-bidder.bidder so_far long (omega (arith, c.len-bidder-end.ensures.value)) c.first_of.result c.first_of.ensures in
     record { sound = sound; first = best }

@@ -8,7 +8,7 @@ use Rattle.settlement.proofs.awards.everyone.Goals as goal
 pub returns : goal.returns
 unfolding everyone
 returns c =
-    let r = c.all-below.result.word in
+    let r = c.all_below.result.word in
     let ones = all_ones 64 (omega arith) in
     let word : r < 2 ^ 64 = search rules in
-    same_words 64 r (2 ^ 64 - 1) word (omega arith) (λ k h. (ones k).1 ((c.all-below.ensures k).0 h)) (λ k h. (c.all-below.ensures k).1 ((ones k).0 h))
+    same_words 64 r (2 ^ 64 - 1) word (omega arith) (λ k h. (ones k).1 ((c.all_below.ensures k).0 h)) (λ k h. (c.all_below.ensures k).1 ((ones k).0 h))

@@ -19,7 +19,7 @@ loop-place-init g c w waiting =
     serving_start (g.R.Ranking.before c.args.self.now.ranking) (closed_view c.args.book.now) w (members c.of-waiting.result) c.none-allotment.result waiting
     c.none-allotment.ensures.0 c.none-allotment.ensures.1
 
-exists : (g : given.Over) (c : goal.After-rows g) → c.swap-remove-next.result.number < length (closed_view c.args.book.now).rows
+exists : (g : given.Over) (c : goal.After-rows g) → c.swap_remove-next.result.number < length (closed_view c.args.book.now).rows
 exists g c =
     let ranking = c.args.self.now.ranking in
     let before = g.R.Ranking.before ranking in
@@ -27,9 +27,9 @@ exists g c =
     let w = c.args.admitted.word in
     let xs = members c.loop-place.waiting in
     let p = c.in-Some.place in
-    let is_first = subst (λ (l : List Contender). FirstOf (Ahead before) l p) c.as-slice.ensures c.in-Some.ensures in
-    next_exists before (closed_view book) w (g.met.R.Ranking.ranks ranking) (closed_within book) xs (members c.swap-remove-next.new.self) p c.swap-remove-next.result
-    c.loop-place.allotment (c.loop-place.invariant w c.of-waiting.ensures) is_first c.swap-remove-next.ensures
+    let is_first = subst (λ (l : List Contender). FirstOf (Ahead before) l p) c.as_slice.ensures c.in-Some.ensures in
+    next_exists before (closed_view book) w (g.met.R.Ranking.ranks ranking) (closed_within book) xs (members c.swap_remove-next.new.self) p c.swap_remove-next.result
+    c.loop-place.allotment (c.loop-place.invariant w c.of-waiting.ensures) is_first c.swap_remove-next.ensures
 
 pub offset_bounds-rows-next : goal.offset_bounds-rows-next
 offset_bounds-rows-next g c = let inside = exists g c in let limits = (closed_within c.args.book.now).few_rows in search rules
@@ -40,8 +40,8 @@ bounds-rows-next g c = let inside = exists g c in let same = ap length c.rows.en
 pub loop-place-smaller : goal.loop-place-smaller
 loop-place-smaller g c =
     let before = members_length c.loop-place.waiting in
-    let after = members_length c.swap-remove-next.new.self in
-    let less = c.swap-remove-next.ensures.shorter in
+    let after = members_length c.swap_remove-next.new.self in
+    let less = c.swap_remove-next.ensures.shorter in
     omega arith
 
 pub loop-place-preserved : goal.loop-place-preserved
@@ -52,11 +52,11 @@ loop-place-preserved g c w waiting =
     let b = closed_view book in
     let xs = members c.loop-place.waiting in
     let p = c.in-Some.place in
-    let x = c.swap-remove-next.result in
+    let x = c.swap_remove-next.result in
     let a = c.loop-place.allotment in
-    let is_first = subst (λ (l : List Contender). FirstOf (Ahead before) l p) c.as-slice.ensures c.in-Some.ensures in
-    serving_next before b w (g.met.R.Ranking.ranks ranking) (closed_within book) xs (members c.swap-remove-next.new.self) p x a (c.loop-place.invariant w waiting) is_first
-    c.swap-remove-next.ensures c.offer-allotment.result
+    let is_first = subst (λ (l : List Contender). FirstOf (Ahead before) l p) c.as_slice.ensures c.in-Some.ensures in
+    serving_next before b w (g.met.R.Ranking.ranks ranking) (closed_within book) xs (members c.swap_remove-next.new.self) p x a (c.loop-place.invariant w waiting) is_first
+    c.swap_remove-next.ensures c.offer-allotment.result
     (subst (λ (rows : List Row). Offers a x.number (get_or rows x.number blank).bundle.word c.offer-allotment.result) c.rows.ensures.value c.offer-allotment.ensures)
 
 pub returns : goal.returns
@@ -67,7 +67,7 @@ returns g c =
     let b = closed_view book in
     let w = c.args.admitted.word in
     let asked : Asked b w = record { limits = closed_within book; word = search rules } in
-    let empty : length (members c.loop-place.waiting) ≡ 0 = subst (λ (l : List Contender). length l ≡ 0) c.as-slice.ensures c.in_default.ensures in
+    let empty : length (members c.loop-place.waiting) ≡ 0 = subst (λ (l : List Contender). length l ≡ 0) c.as_slice.ensures c.in_default.ensures in
     let turns = serving_end before b w (members c.loop-place.waiting) c.loop-place.allotment (c.loop-place.invariant w c.of-waiting.ensures) empty in
     let theorems = greedy_theorems before (g.met.R.Ranking.ranks ranking) in
     record { rule = theorems.one b w _ _ asked turns (theorems.found b w asked); turns = turns; theorems = theorems }

@@ -5,7 +5,7 @@ use Rattle.book.specs.Views.{closed_view}
 use Rattle.rules.specs.WaitingLists.{members, Waiting}
 use Rattle.rules.proofs.WaitingLists.{waiting_none, waiting_pass, waiting_push}
 use Rattle.rules.proofs.waiting.Contenders.of.Goals as goal
-use Rattle.rules.proofs.waiting.Contenders.of.Goals.{then-takes-part, else-takes-part}
+use Rattle.rules.proofs.waiting.Contenders.of.Goals.{then-takes_part, else-takes_part}
 
 pub push-requires : goal.push-requires
 push-requires c = let few = c.loop-bidder.invariant.1 in search rules
@@ -22,14 +22,14 @@ loop-bidder-preserved c =
     let n = c.loop-bidder.bidder in
     let xs = members c.loop-bidder.waiting in
     let so_far = c.loop-bidder.invariant.0 in
-    elim c.if-takes-part.branch [
-      | then-takes-part w' ↦
+    elim c.if-takes_part.branch [
+      | then-takes_part w' ↦
           let x = w'.contender.result in
           let long = length_push xs x in
-          let more = waiting_push b w n xs so_far x w'.contender.ensures (c.takes-part.ensures.0 w'.if-takes-part.true) in
+          let more = waiting_push b w n xs so_far x w'.contender.ensures (c.takes_part.ensures.0 w'.if-takes_part.true) in
           search rules
-      | else-takes-part w' ↦
-          let same = waiting_pass b w n xs so_far (not_from_Decides _ c.takes-part.ensures w'.if-takes-part.false) in
+      | else-takes_part w' ↦
+          let same = waiting_pass b w n xs so_far (not_from_Decides _ c.takes_part.ensures w'.if-takes_part.false) in
           search rules
     ]
 
