@@ -1,3 +1,4 @@
 pub mod Better
 pub mod Filters
 pub mod ShownBidders
+pub mod TwoRules

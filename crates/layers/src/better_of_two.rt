@@ -1,6 +1,7 @@
 ghost use Rattle.std.specs.Prelude.{◌≡◌};
 ghost use Rattle.book.specs.Views.{closed_view};
 ghost use Rattle.layers.specs.Better.{BetterOf, better};
+ghost use Rattle.layers.specs.TwoRules.{better_monotone, better_bitonic};
 
 use book::ClosedBook;
 use rules::AllocationRule;
@@ -15,6 +16,10 @@ pub struct Better<A: AllocationRule, B: AllocationRule> {
 
 impl<A: AllocationRule, B: AllocationRule> AllocationRule for Better<A, B> {
     ghost winners = { λ s. better (A.winners s.first) (B.winners s.second) };
+
+    ghost monotone = { λ s. better_monotone _ _ (A.monotone s.first) (A.bitonic s.first) (B.monotone s.second) (B.bitonic s.second) };
+
+    ghost bitonic = { λ s. better_bitonic _ _ (A.monotone s.first) (A.bitonic s.first) (B.monotone s.second) (B.bitonic s.second) };
 
     fn choose(&self, book: &ClosedBook, admitted: BidderSet) -> BidderSet
         ensures rule { result.word ≡ better (A.winners self.now.first) (B.winners self.now.second) (closed_view book.now) admitted.word }

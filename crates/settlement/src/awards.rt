@@ -9,7 +9,7 @@ use sets::BidderSet;
 
 /// The winners, every bidder admitted, and their welfare.
 pub fn award<Rule: AllocationRule>(rule: &Rule, book: &ClosedBook) -> (BidderSet, u64)
-    ensures winners { result.0.word ≡ winners rule.now (closed_view book.now) everyone }
+    ensures winners { result.0.word ≡ Rule.winners rule.now (closed_view book.now) everyone }
     ensures welfare { result.1 ≡ welfare (closed_view book.now) result.0.word }
 {
     let winners = rule.choose(book, everyone());

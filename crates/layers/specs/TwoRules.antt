@@ -4,7 +4,7 @@ use Rattle.std.proofs.lemmas.Bool.Decides.{nat_tests}
 use Rattle.sets.specs.Members.{Has, has}
 use Rattle.book.specs.Model.{Book, with_value, welfare}
 use Rattle.rules.specs.Feasible.{Fits}
-use Rattle.rules.specs.Laws.{Rule, Asked, Raises, TakesPart, Lawful}
+use Rattle.rules.specs.Laws.{Rule, Asked, Raises, TakesPart, Monotone, Bitonic, Lawful}
 use Rattle.layers.specs.Better.{better}
 
 either : (P : ℕ → Type 0) (first : Bool) (x y : ℕ) → P x → P y → P (cond first x y)
@@ -52,3 +52,14 @@ better_lawful f g lf lg =
         no_less = λ b w j v asked raises. (both b w j v asked raises).no_less;
       };
     }
+
+module _ (f g : Rule) (f_monotone : Monotone f) (f_bitonic : Bitonic f) (g_monotone : Monotone g) (g_bitonic : Bitonic g) where
+  both_lawful : Lawful (better f g)
+  both_lawful =
+      better_lawful f g (record { monotone = f_monotone; bitonic = f_bitonic }) (record { monotone = g_monotone; bitonic = g_bitonic })
+
+  pub better_monotone : Monotone (better f g)
+  better_monotone = both_lawful.monotone
+
+  pub better_bitonic : Bitonic (better f g)
+  better_bitonic = both_lawful.bitonic
