@@ -9,7 +9,7 @@ mod best;
 #[cfg(test)]
 mod books;
 #[cfg(test)]
-mod layers;
+mod layered;
 mod own_order;
 mod own_ranking;
 mod own_rule;
