@@ -77,9 +77,15 @@ sum_adds x j z f n adds new l low =
 
 -- ---- how many
 
+sum_few : (w n : ℕ) → sum_over w (λ _. 1) n ≤ n
+sum_few w n = let few = sum_at_most w (λ _. 1) 1 n (λ k l. omega arith) in omega arith
+
+sum_some : (w k n : ℕ) → Has w k → k < n → 1 ≤ sum_over w (λ _. 1) n
+sum_some w k n h l = let more = sum_larger 0 w k (λ _. 1) h (zero_none k) n (λ i z. absurd (zero_none i z)) l in omega arith
+
 pub size_few : (w : ℕ) → size w ≤ 64
 unfolding size
-size_few w = sum_at_most w (λ _. 1) 1 64 (λ k l. omega arith)
+size_few w = sum_few w 64
 
 pub size_none : (w : ℕ) → NoMember w → size w ≡ 0
 unfolding size
@@ -101,7 +107,7 @@ size_same x z word part few k h =
     (cases_eq (x / 2 ^ k % 2) 1)
 
 pub size_some : (w : ℕ) → w < 2 ^ 64 → (NoMember w → ⊥) → 1 ≤ size w
-size_some w word some =
-    let (here, _) = trailing_lowest 64 w word (some_pos w some) in
-    let i = count_trailing_zeros 64 w in
-    omega (arith, size_larger 0 w i here (zero_none i) (λ k h. absurd (zero_none k h)) (below_within 64 w word i here))
+unfolding size
+size_some w b some =
+    let low = trailing_lowest 64 w b (some_pos w some) in
+    sum_some w (count_trailing_zeros 64 w) 64 low.0 (below_within 64 w b (count_trailing_zeros 64 w) low.0)
