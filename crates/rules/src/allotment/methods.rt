@@ -27,10 +27,9 @@ impl Allotment {
     pub(crate) fn with(self, bidder: usize, bundle: Bundle) -> Allotment
         ensures { Grants self bidder bundle.word result }
     {
-        Allotment {
-            winners: self.winners.with(bidder),
-            taken: self.taken.union(bundle),
-        }
+        let winners = self.winners.with(bidder);
+        let taken = self.taken.union(bundle);
+        Allotment { winners, taken }
     }
 
     /// Gives the bidder its bundle, unless an item of it is taken.
@@ -40,6 +39,9 @@ impl Allotment {
         if bundle.shares(self.taken) {
             return self;
         }
-        self.with(bidder, bundle)
+        Allotment {
+            winners: self.winners.with(bidder),
+            taken: self.taken.union(bundle),
+        }
     }
 }
