@@ -1,3 +1,4 @@
+-- Every contender is a row that can exist.
 use Rattle.ranking.specs.declared.contenders.Contender.{Contender}
 use Rattle.ranking.specs.Rankings.{Possible}
 use Rattle.ranking.specs.Views.{entry_of}
