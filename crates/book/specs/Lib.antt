@@ -1,6 +1,5 @@
 pub mod Refusals
 pub mod Model
-pub mod Listed
 pub mod Limits
 pub mod Checks
 pub mod Runs

@@ -1,6 +1,7 @@
 use crate::row::Row;
 use sets::Bundle;
 
+// Data and no closures: what the rules say is said of lists of calls, and `apply` picks the method.
 /// A call on an open book.
 #[derive(Clone, Copy)]
 pub enum Call {

@@ -1,62 +1,78 @@
 ghost use Rattle.std.specs.Prelude.{◌≡◌, ◌≤◌, [], ◌∷◌, length};
-ghost use Rattle.book.specs.Checks.{Answers, bidder_exists};
+ghost use Rattle.book.specs.Checks.{Answers, bidder_exists, value_allowed};
 ghost use Rattle.book.specs.Limits.{WithinLimits};
-ghost use Rattle.book.specs.Model.{row, welfare as welfare_of};
-ghost use Rattle.book.specs.Views.{recorded, closed_view, Revalues};
+ghost use Rattle.book.specs.Model.{row, with_value, welfare as welfare_of};
+ghost use Rattle.book.specs.Views.{recorded};
 
 use crate::ledger::{Ledger, VALUE_LIMIT};
 use crate::refusal::Refusal;
 use crate::row::Row;
 use sets::BidderSet;
+use std::marker::Model;
 
 /// A book that takes no more bids.
 #[derive(Drop)]
 pub struct ClosedBook {
-    pub(crate) ledger: Ledger,
+    ledger: Ledger,
 }
 
+impl Model for ClosedBook {
+    ghost use Rattle.book.specs.Model.{Book};
+    ghost use Rattle.book.specs.Views.{recorded};
+
+    ghost Value = { Book };
+
+    ghost view = { λ book. recorded book.ledger };
+}
+
+// A type of its own beside `OpenBook`, by a rule of the project: so a bid in a closed book and an award of an open one do not compile.
 impl ClosedBook {
+    #[tactic(auto, using(crate::proofs::Kept::ledger_within))]
     pub(crate) fn of(ledger: Ledger) -> ClosedBook
-        ensures same { closed_view result ≡ recorded ledger }
-        ensures limits { WithinLimits (closed_view result) }
+        ensures same { result ≡ recorded ledger }
+        ensures limits { WithinLimits result }
     {
         ClosedBook { ledger }
     }
 
     /// The number of items.
     pub fn items(&self) -> usize
-        ensures { result ≡ (closed_view self.now).items }
+        ensures { result ≡ self.now.items }
     {
         self.ledger.items
     }
 
     /// The number of rows.
     pub fn len(&self) -> usize
-        ensures value { result ≡ length (closed_view self.now).rows }
+        ensures value { result ≡ length self.now.rows }
         ensures bound { result ≤ 64 }
     {
         self.ledger.rows.len()
     }
 
+    // The limits too, here and in an open book's `show` and `close`: of a book a clause sees the model, which tells no invariant.
     /// The rows, in order of entry.
+    #[tactic(auto, using(crate::proofs::Kept::ledger_within))]
     pub fn rows(&self) -> &[Row]
-        ensures value { result.now ≡ (closed_view self.now).rows }
+        ensures value { result.now ≡ self.now.rows }
         ensures bound { length result.now ≤ 64 }
+        ensures limits { WithinLimits self.now }
     {
         self.ledger.rows.as_slice()
     }
 
     /// The bidder's row.
     pub fn show(&self, bidder: usize) -> Result<Row, Refusal>
-        ensures { Answers (bidder_exists (closed_view self.now) bidder ∷ []) (row (closed_view self.now) bidder) result }
+        ensures { Answers (bidder_exists self.now bidder ∷ []) (row self.now bidder) result }
     {
         self.ledger.row(bidder)
     }
 
     /// The sum of the values that the bidders of `set` declare.
     pub fn welfare(&self, set: BidderSet) -> u64
-        ensures { result ≡ welfare_of (closed_view self.now) set.word }
+        ensures { result ≡ welfare_of self.now set.word }
     {
+        // A loop over the rows, by a rule of the project.
         let mut total = 0;
         for (bidder, row) in self.rows().iter().enumerate() {
             if set.has(bidder) {
@@ -67,15 +83,16 @@ impl ClosedBook {
     }
 
     /// The same book, in which the bidder declares `value`.
+    #[tactic(auto, using(crate::proofs::Kept::row_set))]
     pub fn with_value(&self, bidder: usize, value: u32) -> Result<ClosedBook, Refusal>
-        ensures { Revalues (closed_view self.now) bidder value result }
+        ensures { Answers (bidder_exists self.now bidder ∷ value_allowed value ∷ []) (with_value bidder value self.now) result }
     {
         let row = self.ledger.row(bidder)?;
         if value > VALUE_LIMIT {
             return Err(Refusal::ValueAboveLimit);
         }
-        let mut ledger = self.ledger;
-        ledger.rows.set(bidder, Row { value, ..row });
+        let mut ledger = self.ledger.copied();
+        ledger.rows[bidder] = Row { value, ..row };
         Ok(ClosedBook::of(ledger))
     }
 }

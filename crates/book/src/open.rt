@@ -3,42 +3,51 @@ ghost use Rattle.book.specs.declared.call.Call.TheVariants.{Size, Enter, Revise,
 ghost use Rattle.book.specs.Checks.{Serves};
 ghost use Rattle.book.specs.Limits.{WithinLimits};
 ghost use Rattle.book.specs.Model.{fresh, row};
-ghost use Rattle.book.specs.Views.{view, closed_view};
 
 use crate::closed::ClosedBook;
 use crate::ledger::{ITEM_LIMIT, Ledger, VALUE_LIMIT};
 use crate::refusal::Refusal;
 use crate::row::{Mark, Row};
-use crate::rows::{ROW_LIMIT, RowList};
+use arrayvec::ArrayVec;
 use sets::Bundle;
+use std::marker::Model;
 
 /// A book that takes bids. A refused call changes nothing.
 #[derive(Drop)]
 pub struct OpenBook {
-    pub(crate) ledger: Ledger,
+    ledger: Ledger,
+}
+
+impl Model for OpenBook {
+    ghost use Rattle.book.specs.Model.{Book};
+    ghost use Rattle.book.specs.Views.{recorded};
+
+    ghost Value = { Book };
+
+    ghost view = { λ book. recorded book.ledger };
 }
 
 impl OpenBook {
     /// A fresh book: 64 items and no rows.
     pub fn new() -> OpenBook
-        ensures { view result ≡ fresh }
+        ensures { result ≡ fresh }
     {
         OpenBook {
             ledger: Ledger {
                 items: ITEM_LIMIT,
-                rows: RowList::new(),
+                rows: ArrayVec::new(),
             },
         }
     }
 
     /// Sets the number of items, before the first row is entered.
     pub fn size(&mut self, items: usize) -> Result<(), Refusal>
-        ensures { Serves (Size items) tt (view self.old) result (view self.new) }
+        ensures { Serves (Size items) tt self.old result self.new }
     {
         if items < 1 || items > ITEM_LIMIT {
             return Err(Refusal::ItemCountOutOfRange);
         }
-        if self.ledger.rows.len() > 0 {
+        if !self.ledger.rows.is_empty() {
             return Err(Refusal::SizeAfterEntry);
         }
         self.ledger.items = items;
@@ -47,10 +56,9 @@ impl OpenBook {
 
     /// Adds a standing row, and gives its number.
     pub fn enter(&mut self, bundle: Bundle, value: u32) -> Result<usize, Refusal>
-        ensures { Serves (Enter bundle value) (length (view self.old).rows) (view self.old) result (view self.new) }
+        ensures { Serves (Enter bundle value) (length self.old.rows) self.old result self.new }
     {
-        let bidder = self.ledger.rows.len();
-        if bidder >= ROW_LIMIT {
+        if self.ledger.rows.is_full() {
             return Err(Refusal::BookFull);
         }
         if bundle.is_empty() {
@@ -62,6 +70,7 @@ impl OpenBook {
         if value > VALUE_LIMIT {
             return Err(Refusal::ValueAboveLimit);
         }
+        let bidder = self.ledger.rows.len();
         self.ledger.rows.push(Row {
             bundle,
             value,
@@ -71,40 +80,44 @@ impl OpenBook {
     }
 
     /// Gives a standing row another value.
+    #[tactic(auto, using(crate::proofs::Kept::row_set))]
     pub fn revise(&mut self, bidder: usize, value: u32) -> Result<(), Refusal>
-        ensures { Serves (Revise bidder value) tt (view self.old) result (view self.new) }
+        ensures { Serves (Revise bidder value) tt self.old result self.new }
     {
         let row = self.ledger.standing_row(bidder)?;
         if value > VALUE_LIMIT {
             return Err(Refusal::ValueAboveLimit);
         }
-        self.ledger.rows.set(bidder, Row { value, ..row });
+        self.ledger.rows[bidder] = Row { value, ..row };
         Ok(())
     }
 
     /// Marks a standing row withdrawn.
+    #[tactic(auto, using(crate::proofs::Kept::row_set))]
     pub fn withdraw(&mut self, bidder: usize) -> Result<(), Refusal>
-        ensures { Serves (Withdraw bidder) tt (view self.old) result (view self.new) }
+        ensures { Serves (Withdraw bidder) tt self.old result self.new }
     {
         let row = Row {
             mark: Mark::Withdrawn,
             ..self.ledger.standing_row(bidder)?
         };
-        self.ledger.rows.set(bidder, row);
+        self.ledger.rows[bidder] = row;
         Ok(())
     }
 
     /// The bidder's row.
+    #[tactic(auto, using(crate::proofs::Kept::ledger_within))]
     pub fn show(&self, bidder: usize) -> Result<Row, Refusal>
-        ensures { Serves (Show bidder) (row (view self.now) bidder) (view self.now) result (view self.now) }
+        ensures served { Serves (Show bidder) (row self.now bidder) self.now result self.now }
+        ensures limits { WithinLimits self.now }
     {
         self.ledger.row(bidder)
     }
 
     /// Uses the open book up, and gives the closed one that awards are made from.
     pub fn close(self) -> ClosedBook
-        ensures same { closed_view result ≡ view self }
-        ensures limits { WithinLimits (closed_view result) }
+        ensures same { result ≡ self }
+        ensures limits { WithinLimits result }
     {
         ClosedBook::of(self.ledger)
     }

@@ -1,8 +1,9 @@
-use book::{Answer, Call, Mark, OpenBook, Refusal, Row};
+use book::{Answer, Call, Mark, OpenBook, Row};
 use sets::Bundle;
 use std::process::Abort;
 use std::test::Fail;
 
+// Shorter in a list of calls than the variants with the names of their fields.
 pub(crate) fn enter(bundle: Bundle, value: u32) -> Call {
     Call::Enter { bundle, value }
 }
@@ -22,13 +23,10 @@ pub(crate) fn full_book(rt: &impl Abort, value: u32) -> Result<OpenBook, Fail> {
 }
 
 /// Makes the calls in order: each must give its answer, or the number of its refusal.
+// Numbers, and not cases of `Refusal`: the rules name a refusal by its number, and the tables expect what the rules say.
 fn check_calls(rt: &impl Abort, book: &mut OpenBook, cases: &[(Call, Result<Answer, u8>)]) {
-    for (call, expected) in cases {
-        let answer = match book.apply(*call) {
-            Ok(answer) => Ok(answer),
-            Err(refusal) => Err(refusal.number()),
-        };
-        assert_eq!(rt; answer, *expected);
+    for &(call, expected) in cases {
+        assert_eq!(rt; book.apply(call).map_err(u8::from), expected);
     }
 }
 

@@ -7,8 +7,8 @@ use std::test::Fail;
 fn check_same(rt: &impl Abort, a: &ClosedBook, b: &ClosedBook) {
     assert_eq!(rt; a.items(), b.items());
     assert_eq!(rt; a.len(), b.len());
-    for bidder in 0..a.len() {
-        assert_eq!(rt; a.show(bidder), b.show(bidder));
+    for (bidder, &row) in a.rows().iter().enumerate() {
+        assert_eq!(rt; b.show(bidder), Ok(row));
     }
 }
 

@@ -1,4 +1,6 @@
+use book::{Argument, Mark, Refusal, Row};
 use sets::{BidderSet, Bundle};
+use std::test::Fail;
 
 #[test]
 fn members(rt: HostRuntime) {
@@ -34,4 +36,28 @@ fn shared_items(rt: HostRuntime) {
     assert_eq!(rt; high.lowest_shared(Bundle::single(63).with(1)), Some(63));
     assert_eq!(rt; high.lowest_shared(Bundle::all_below(3)), None);
     assert_eq!(rt; Bundle::empty().lowest(), None);
+}
+
+#[test]
+fn defaults(rt: HostRuntime) {
+    let row = Row {
+        bundle: Bundle::empty(),
+        value: 0,
+        mark: Mark::Standing,
+    };
+    assert_eq!(rt; Row::default(), row);
+    assert_eq!(rt; Bundle::default(), Bundle::empty());
+}
+
+#[test]
+fn arguments(rt: HostRuntime) -> Result<(), Fail> {
+    for (number, is_allowed) in [(0, false), (1, true), (3, true), (4, false)] {
+        assert_eq!(rt; Argument::<1, 3>::try_from(number).is_ok(), is_allowed);
+    }
+    assert_eq!(rt; Argument::<1, 3>::try_from(2)?.get(), 2);
+    assert_eq!(rt;
+        Argument::<1, 3>::try_from(4).err(),
+        Some(Refusal::ArgumentOutOfRange)
+    );
+    Ok(())
 }

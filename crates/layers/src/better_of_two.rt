@@ -1,5 +1,4 @@
 ghost use Rattle.std.specs.Prelude.{◌≡◌};
-ghost use Rattle.book.specs.Views.{closed_view};
 ghost use Rattle.layers.specs.Better.{BetterOf, better};
 ghost use Rattle.layers.specs.TwoRules.{better_monotone, better_bitonic};
 
@@ -22,8 +21,8 @@ impl<A: AllocationRule, B: AllocationRule> AllocationRule for Better<A, B> {
     ghost bitonic = { λ s. better_bitonic _ _ (A.monotone s.first) (A.bitonic s.first) (B.monotone s.second) (B.bitonic s.second) };
 
     fn choose(&self, book: &ClosedBook, admitted: BidderSet) -> BidderSet
-        ensures rule { result.word ≡ better (A.winners self.now.first) (B.winners self.now.second) (closed_view book.now) admitted.word }
-        ensures chosen { BetterOf (closed_view book.now) (A.winners self.now.first (closed_view book.now) admitted.word) (B.winners self.now.second (closed_view book.now) admitted.word) result.word }
+        ensures rule { result.word ≡ better (A.winners self.now.first) (B.winners self.now.second) book.now admitted.word }
+        ensures chosen { BetterOf book.now (A.winners self.now.first book.now admitted.word) (B.winners self.now.second book.now admitted.word) result.word }
     {
         let first = self.first.choose(book, admitted);
         let second = self.second.choose(book, admitted);

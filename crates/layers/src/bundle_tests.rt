@@ -3,7 +3,7 @@ ghost use Rattle.sets.specs.Members.{Has, size};
 ghost use Rattle.book.specs.Checks.{Makes, argument_between};
 ghost use Rattle.layers.specs.Filters.{Test, fits_in, leaves_out};
 
-use book::{ITEM_LIMIT, Refusal};
+use book::{Argument, Refusal};
 use sets::Bundle;
 
 /// One question: does the bundle pass?
@@ -17,59 +17,55 @@ pub trait BundleTest {
 /// Passes bundles of at most so many items.
 #[derive(Clone, Copy)]
 pub struct Fit {
-    most: usize,
-    ghost range: { (1 ≤ most) × (most ≤ 64) },
+    most: Argument<1, 64>,
 }
 
 impl Fit {
     /// `most` is 1 to 64.
     pub fn new(most: usize) -> Result<Fit, Refusal>
-        ensures { Makes (argument_between 1 64 most ∷ []) (λ test. test.most ≡ most) result }
+        ensures { Makes (argument_between 1 64 most ∷ []) (λ test. test.most.number ≡ most) result }
     {
-        if most < 1 || most > ITEM_LIMIT {
-            return Err(Refusal::ArgumentOutOfRange);
-        }
-        Ok(Fit { most })
+        Ok(Fit {
+            most: most.try_into()?,
+        })
     }
 }
 
 impl BundleTest for Fit {
-    ghost meaning = { λ test. fits_in test.most };
+    ghost meaning = { λ test. fits_in test.most.number };
 
     fn passes(&self, bundle: Bundle) -> bool
-        ensures test { result ≡ fits_in self.now.most bundle.word }
-        ensures says { Decides result (size bundle.word ≤ self.now.most) }
+        ensures test { result ≡ fits_in self.now.most.number bundle.word }
+        ensures says { Decides result (size bundle.word ≤ self.now.most.number) }
     {
-        bundle.len() <= self.most
+        bundle.len() <= self.most.get()
     }
 }
 
 /// Passes bundles without one item, which is held back.
 #[derive(Clone, Copy)]
 pub struct Hold {
-    item: usize,
-    ghost range: { item ≤ 63 },
+    item: Argument<0, 63>,
 }
 
 impl Hold {
     /// `item` is 0 to 63.
     pub fn new(item: usize) -> Result<Hold, Refusal>
-        ensures { Makes (argument_between 0 63 item ∷ []) (λ test. test.item ≡ item) result }
+        ensures { Makes (argument_between 0 63 item ∷ []) (λ test. test.item.number ≡ item) result }
     {
-        if item >= ITEM_LIMIT {
-            return Err(Refusal::ArgumentOutOfRange);
-        }
-        Ok(Hold { item })
+        Ok(Hold {
+            item: item.try_into()?,
+        })
     }
 }
 
 impl BundleTest for Hold {
-    ghost meaning = { λ test. leaves_out test.item };
+    ghost meaning = { λ test. leaves_out test.item.number };
 
     fn passes(&self, bundle: Bundle) -> bool
-        ensures test { result ≡ leaves_out self.now.item bundle.word }
-        ensures says { Decides result (Has bundle.word self.now.item → ⊥) }
+        ensures test { result ≡ leaves_out self.now.item.number bundle.word }
+        ensures says { Decides result (Has bundle.word self.now.item.number → ⊥) }
     {
-        !bundle.has(self.item)
+        !bundle.has(self.item.get())
     }
 }

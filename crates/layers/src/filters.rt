@@ -1,5 +1,4 @@
 ghost use Rattle.std.specs.Prelude.{◌≡◌};
-ghost use Rattle.book.specs.Views.{closed_view};
 ghost use Rattle.layers.specs.Filters.{Passing, Shown, passing, filtered};
 ghost use Rattle.layers.specs.ShownBidders.{filtered_monotone, filtered_bitonic};
 
@@ -17,9 +16,10 @@ pub struct Filtered<A: AllocationRule, T: BundleTest> {
 
 impl<A: AllocationRule, T: BundleTest> Filtered<A, T> {
     /// The admitted bidders but for those whose bundle does not pass.
+    // Book and admitted bidders as `choose` has them.
     fn admit(&self, book: &ClosedBook, admitted: BidderSet) -> BidderSet
-        ensures word { result.word ≡ passing (T.meaning self.now.test) (closed_view book.now) admitted.word }
-        ensures members { Passing (T.meaning self.now.test) (closed_view book.now) admitted.word result.word }
+        ensures word { result.word ≡ passing (T.meaning self.now.test) book.now admitted.word }
+        ensures members { Passing (T.meaning self.now.test) book.now admitted.word result.word }
     {
         let mut left = admitted;
         for (bidder, row) in book.rows().iter().enumerate() {
@@ -39,8 +39,8 @@ impl<A: AllocationRule, T: BundleTest> AllocationRule for Filtered<A, T> {
     ghost bitonic = { λ rule. filtered_bitonic (T.meaning rule.test) _ (A.bitonic rule.rule) };
 
     fn choose(&self, book: &ClosedBook, admitted: BidderSet) -> BidderSet
-        ensures rule { result.word ≡ filtered (T.meaning self.now.test) (A.winners self.now.rule) (closed_view book.now) admitted.word }
-        ensures shown { Shown (T.meaning self.now.test) (A.winners self.now.rule) (closed_view book.now) admitted.word result.word }
+        ensures rule { result.word ≡ filtered (T.meaning self.now.test) (A.winners self.now.rule) book.now admitted.word }
+        ensures shown { Shown (T.meaning self.now.test) (A.winners self.now.rule) book.now admitted.word result.word }
     {
         self.rule.choose(book, self.admit(book, admitted))
     }

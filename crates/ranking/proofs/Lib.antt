@@ -1,2 +1,2 @@
-mod Scans
+mod Reduced
 pub mod Seen

@@ -29,11 +29,13 @@ RowOrder = Entry → Entry → Bool
 
 pub record Ranks (before : RowOrder) : Type 0 where
   pub irreflexive : (a : Entry) → Possible a → before a a ≢ true
-  pub transitive : (a b c : Entry) → Possible a → Possible b → Possible c → before a b ≡ true → before b c ≡ true → before a c ≡ true
+  pub transitive : (a b c : Entry) → Possible a → Possible b → Possible c
+      → before a b ≡ true → before b c ≡ true → before a c ≡ true
   -- of two rows with different numbers one comes before the other; by the laws above, only one
   pub total : (a b : Entry) → Possible a → Possible b → (a.number ≢ b.number) → (before a b ≡ true) ⊎ (before b a ≡ true)
   -- who comes before another still does with a greater value
-  pub raised : (a b : Entry) (v : ℕ) → Possible a → Possible b → a.value ≤ v → v ≤ greatest → before a b ≡ true → before (valued v a) b ≡ true
+  pub raised : (a b : Entry) (v : ℕ) → Possible a → Possible b → a.value ≤ v → v ≤ greatest
+      → before a b ≡ true → before (valued v a) b ≡ true
 
 -- ---- the rankings supplied; equals go by lower row number
 

@@ -10,6 +10,7 @@ use crate::orders::Order;
 pub trait Ranking {
     ghost before: { Self → RowOrder };
 
+    // Two rows and no struct of both: they are the question.
     fn comes_before(&self, a: &Contender, b: &Contender) -> bool
         ensures { result ≡ before self.now (entry_of a.now) (entry_of b.now) };
 

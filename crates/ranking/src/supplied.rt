@@ -4,6 +4,7 @@ ghost use Rattle.ranking.specs.RankLaws.{value_ranks, root_ranks, item_ranks};
 
 use crate::contenders::Contender;
 use crate::rankings::Ranking;
+use std::cmp::Reverse;
 
 /// The greater value first.
 #[derive(Clone, Copy)]
@@ -23,17 +24,24 @@ impl Ranking for ByValue {
     ghost ranks = { λ ranking. value_ranks };
 
     fn comes_before(&self, a: &Contender, b: &Contender) -> bool {
-        leads(value(a), value(b), a, b)
+        leads(u64::from(a.value), u64::from(b.value), a, b)
     }
 }
 
+// A size goes to `u64` by `as`, since there is no `From<usize>` for it.
+// Each body is its rule's formula: one over the measure for `ByRoot` and `ByItem` would be a helper with a `requires` on its products.
 impl Ranking for ByRoot {
     ghost before = { λ _. by_root };
 
     ghost ranks = { λ ranking. root_ranks };
 
     fn comes_before(&self, a: &Contender, b: &Contender) -> bool {
-        leads(square(a) * size(b), square(b) * size(a), a, b)
+        leads(
+            square(a.value) * b.size as u64,
+            square(b.value) * a.size as u64,
+            a,
+            b,
+        )
     }
 }
 
@@ -43,34 +51,27 @@ impl Ranking for ByItem {
     ghost ranks = { λ ranking. item_ranks };
 
     fn comes_before(&self, a: &Contender, b: &Contender) -> bool {
-        leads(value(a) * size(b), value(b) * size(a), a, b)
+        leads(
+            u64::from(a.value) * b.size as u64,
+            u64::from(b.value) * a.size as u64,
+            a,
+            b,
+        )
     }
 }
 
+// The two rows that `comes_before` is asked about, and what it compares of them.
 /// Whether `x` is the greater, or the two are equal and `a` has the lower number.
 fn leads(x: u64, y: u64, a: &Contender, b: &Contender) -> bool
     ensures { result ≡ leads_by x y a.now.number b.now.number }
 {
-    x > y || x == y && a.number < b.number
+    (Reverse(x), a.number) < (Reverse(y), b.number)
 }
 
-fn value(a: &Contender) -> u64
-    ensures same { result ≡ a.now.value }
-    ensures bound { result ≤ 100000000 }
+/// The square, which may not fit the type of `value`.
+// A function, since with `pow` in place the products of squares and sizes stay unproved.
+fn square(value: u32) -> u64
+    ensures { result ≡ value * value }
 {
-    u64::from(a.value)
-}
-
-fn size(a: &Contender) -> u64
-    ensures same { result ≡ a.now.size }
-    ensures bound { result ≤ 64 }
-{
-    a.size as u64
-}
-
-fn square(a: &Contender) -> u64
-    ensures same { result ≡ a.now.value * a.now.value }
-    ensures bound { result ≤ 10000000000000000 }
-{
-    value(a) * value(a)
+    u64::from(value).pow(2)
 }

@@ -1,16 +1,18 @@
 -- What a choice can grow to, one bidder at a time in rising order.
-use Rattle.std.proofs.Common.{◌≡◌, ℕ, zero, suc, ◌+◌, ◌-◌, ◌/◌, ◌%◌, ◌^◌, ◌<◌, ◌≤◌, true, List, length, get_or, set, sym, ap, ◌∙◌, subst, subst₂, inl, inr, ⊎_elim, arith}
-use Rattle.std.proofs.lemmas.List.{get_or-set_same, get_or-set_other}
+use Rattle.std.proofs.Common.{◌≡◌, ℕ, zero, suc, ◌+◌, ◌-◌, ◌/◌, ◌%◌, ◌^◌, ◌<◌, ◌≤◌, true, List, [], ◌∷◌, ◌++◌, length, get_or, Contains, sym, ◌∙◌, subst, subst₂, inl, inr, ⊎_elim, arith}
+use Rattle.std.proofs.lemmas.List.{get_or_default}
+use Rattle.std.proofs.lemmas.List.Elements.{Contains-append_left, Contains-push, Contains-push_cases}
 use Rattle.std.proofs.lemmas.Bool.{cases_eq, eqb-true, eq-eqb}
 use Rattle.sets.specs.Members.{Has, has, Adds}
 use Rattle.sets.proofs.Sums.{sum_none, size_none, size_adds, size_same}
 use Rattle.sets.proofs.Words.{same_words, within_below}
 use Rattle.book.specs.Limits.{WithinLimits}
 use Rattle.book.specs.Model.{Book, row, welfare}
+use Rattle.ranking.specs.Orders.{FirstOf}
 use Rattle.ranking.specs.Rankings.{leads}
 use Rattle.rules.specs.declared.choices.Choice.{Choice}
 use Rattle.rules.specs.Best.{IsBest, beats}
-use Rattle.rules.specs.Choices.{chosen, blank, Empty, Sound, Free, Precedes, Foremost, Extends, BestExtension}
+use Rattle.rules.specs.Choices.{chosen, Empty, Sound, Free, Precedes, Foremost, Extends, BestExtension}
 use Rattle.rules.specs.Feasible.{FitsBeside}
 use Rattle.rules.specs.Laws.{TakesPart, Feasible}
 use Rattle.rules.specs.Beating.{leads_one_way, leads_not_onward}
@@ -77,28 +79,42 @@ module _ (b : Book) (w k x j : ℕ) (new : Has x j → ⊥) where
           ⊎_elim (λ was. ⊎_elim inl (λ own. inr (omega (arith, own.0))) ((adds i).0 was)) (λ above. inr (omega arith)) (grown.new i h);
     }
 
--- ---- a place for each bidder
+-- ---- the first of a list
 
--- At every place stands what the choice can grow to, at place j below n the best of those with j as the lowest new member, and at the
--- last place the choice itself.
+-- what stands at the first place is the foremost
+pub foremost_at : (choices : List Choice) (p : ℕ) (r : Choice) → FirstOf Precedes choices p → r ≡ get_or choices p r → Foremost choices r
+foremost_at choices p r first is = record {
+  there = (p, first.inside, sym is);
+  first = λ d at over. first.least at.0 d at.1
+      (subst₂ Precedes (sym at.2) (is ∙ get_or_default choices p r d first.inside) over);
+}
+
+-- ---- the choices gathered, one bidder's turn after another
+
+-- Each of the choices is sound, and one that c can grow to. Among them is c itself and, for each bidder below n that can join, the best
+-- of those with that bidder as the lowest new member: no such set beats all the choices.
 pub record Gathered (b : Book) (w from k : ℕ) (c : Choice) (choices : List Choice) (n : ℕ) : Type 0 where
-  pub sound : (p : ℕ) → p < 65 → Sound b w (get_or choices p blank)
-  pub grown : (p : ℕ) → p < 65 → Extends b w from k (chosen c) (chosen (get_or choices p blank))
+  pub sound : (d : Choice) → Contains choices d → Sound b w d
+  pub grown : (d : Choice) → Contains choices d → Extends b w from k (chosen c) (chosen d)
+  pub own : Contains choices c
   pub best : (j : ℕ) → from ≤ j → j < n → (z : ℕ) → Extends b w j k (chosen c) z → Has z j →
-      beats b z (chosen (get_or choices j blank)) ≡ true → ⊥
-  pub own : get_or choices 64 blank ≡ c
+      (d : Choice) × Contains choices d × (beats b z (chosen d) ≡ true → ⊥)
 
 module _ (b : Book) (limits : WithinLimits b) (w from k : ℕ) (c : Choice) (is_sound : Sound b w c) where
   abbrev x : ℕ
   x = chosen c
 
-  pub gathered_start : (choices : List Choice) → ((p : ℕ) → p < 65 → get_or choices p blank ≡ c) → Gathered b w from k c choices from
-  gathered_start choices all = record {
-    sound = λ p l. subst (Sound b w) (sym (all p l)) is_sound;
-    grown = λ p l. subst (λ (d : Choice). Extends b w from k x (chosen d)) (sym (all p l)) (extends_none b limits w from k x is_sound.feasible);
-    best = λ j above under. absurd (omega arith);
-    own = all 64 (omega arith);
-  }
+  pub gathered_start : Gathered b w from k c (c ∷ []) from
+  gathered_start =
+      let only : (d : Choice) → Contains (c ∷ []) d → c ≡ d =
+      λ d at. ⊎_elim (λ none. absurd (omega (arith, none.1))) (λ same. same) (Contains-push_cases [] c d at) in
+      record {
+        sound = λ d at. subst (Sound b w) (only d at) is_sound;
+        grown = λ d at.
+            subst (λ (e : Choice). Extends b w from k x (chosen e)) (only d at) (extends_none b limits w from k x is_sound.feasible);
+        own = Contains-push [] c;
+        best = λ j above under. absurd (omega arith);
+      }
 
   module _ (choices : List Choice) (n : ℕ) (so_far : Gathered b w from k c choices n) where
     -- bidder n cannot join
@@ -106,93 +122,79 @@ module _ (b : Book) (limits : WithinLimits b) (w from k : ℕ) (c : Choice) (is_
     gathered_pass new barred = record {
       sound = so_far.sound;
       grown = so_far.grown;
+      own = so_far.own;
       best = λ j above under z can here.
           ⊎_elim
           (λ (e : j ≡ n).
           let joins = member_joins b w k x n new z (subst (λ i. Extends b w i k x z) e can) (subst (Has z) e here) in
           absurd (barred (beside_free b w c is_sound n new joins.0 joins.1)))
           (λ ne. so_far.best j above (omega arith) z can here) (cases_eq j n);
-      own = so_far.own;
     }
 
     -- bidder n joins, and r is the best that comes of it
-    module _ (long : length choices ≡ 65) (above : from ≤ n) (low : n < 64) (new : Has x n → ⊥) (some : 1 ≤ k) (larger r : Choice)
-        (adds : Adds x n (chosen larger)) (sound : Sound b w r) (best : BestExtension b w (n + 1) (k - 1) (chosen larger) (chosen r)) where
-      at_n : (p : ℕ) → p ≡ n → get_or (set choices n r) p blank ≡ r
-      at_n p e = ap (λ i. get_or (set choices n r) i blank) e ∙ get_or-set_same choices n r blank (omega arith)
-
-      elsewhere : (p : ℕ) → (p ≡ n → ⊥) → get_or (set choices n r) p blank ≡ get_or choices p blank
-      elsewhere p ne = get_or-set_other choices n p r blank ne
-
-      -- what holds of r and of the choice that stood at place p
-      placed : (P : Choice → Type 0) (p : ℕ) → P r → P (get_or choices p blank) → P (get_or (set choices n r) p blank)
-      placed P p here there =
-          ⊎_elim (λ (e : p ≡ n). subst P (sym (at_n p e)) here)
-          (λ ne. subst P (sym (elsewhere p ne)) there) (cases_eq p n)
-
-      pub gathered_join : Gathered b w from k c (set choices n r) (n + 1)
-      gathered_join = record {
-        sound = λ p l. placed (Sound b w) p sound (so_far.sound p l);
-        grown = λ p l.
-            placed (λ d. Extends b w from k x (chosen d)) p
-            (extends_back b w k x n new (chosen larger) adds low some from above (chosen r) best.extends) (so_far.grown p l);
-        best = λ j above_j under z can here over.
-            ⊎_elim
-            (λ (e : j ≡ n).
+    pub gathered_join : from ≤ n → n < 64 → (Has x n → ⊥) → 1 ≤ k → (larger r : Choice) → Adds x n (chosen larger) → Sound b w r →
+        BestExtension b w (n + 1) (k - 1) (chosen larger) (chosen r) → Gathered b w from k c (choices ++ r ∷ []) (n + 1)
+    gathered_join above low new some larger r adds sound best = record {
+      sound = λ d at.
+          ⊎_elim (so_far.sound d) (λ (same : r ≡ d). subst (Sound b w) same sound) (Contains-push_cases choices r d at);
+      grown = λ d at.
+          ⊎_elim (so_far.grown d)
+          (λ (same : r ≡ d).
+          subst (λ (e : Choice). Extends b w from k x (chosen e)) same
+          (extends_back b w k x n new (chosen larger) adds low some from above (chosen r) best.extends)) (Contains-push_cases choices r d at);
+      own = Contains-append_left choices (r ∷ []) c so_far.own;
+      best = λ j above_j under z can here.
+          ⊎_elim
+          (λ (e : j ≡ n). (
+            r,
+            Contains-push choices r,
             best.unbeaten z
-            (extends_on b w k x n new (chosen larger) adds low some z (subst (λ i. Extends b w i k x z) e can) (subst (Has z) e here))
-            (subst (λ (d : Choice). beats b z (chosen d) ≡ true) (at_n j e) over))
-            (λ ne.
-            so_far.best j above_j (omega arith) z can here
-            (subst (λ (d : Choice). beats b z (chosen d) ≡ true) (elsewhere j ne) over)) (cases_eq j n);
-        own = elsewhere 64 (λ e. omega arith) ∙ so_far.own;
-      }
+                (extends_on b w k x n new (chosen larger) adds low some z (subst (λ i. Extends b w i k x z) e can) (subst (Has z) e here)),
+          ))
+          (λ ne.
+          let (d, at, unbeaten) = so_far.best j above_j (omega arith) z can here in
+          (d, Contains-append_left choices (r ∷ []) d at, unbeaten)) (cases_eq j n);
+    }
 
     -- ---- all bidders have had their turn
 
-    module _ (long : length choices ≡ 65) (done : length b.rows ≤ n) (r : Choice) (foremost : Foremost choices r) where
-      sound_r : Sound b w r
-      sound_r = subst (Sound b w) foremost.there (so_far.sound foremost.place (omega (arith, foremost.first.inside)))
-
-      -- what stands at a place does not beat r
-      behind : (p : ℕ) → p < 65 → beats b (chosen (get_or choices p blank)) (chosen r) ≡ true → ⊥
-      behind p l over =
-          let d = get_or choices p blank in
-          foremost.first.least p blank (omega arith)
-          (subst (Precedes d) (sym foremost.there)
-          (subst₂ (λ u v. leads u v (chosen d) (chosen r) ≡ true) (sym (so_far.sound p l).worth) (sym sound_r.worth) over))
+    module _ (done : length b.rows ≤ n) (r : Choice) (foremost : Foremost choices r) where
+      -- none of the choices beats r
+      behind : (d : Choice) → Contains choices d → beats b (chosen d) (chosen r) ≡ true → ⊥
+      behind d at over =
+          let worth = (so_far.sound d at).worth in
+          let worth_r = (so_far.sound r foremost.there).worth in
+          foremost.first d at (subst₂ (λ u v. leads u v (chosen d) (chosen r) ≡ true) (sym worth) (sym worth_r) over)
 
       -- nothing that x can grow to by bidders from `start` on beats r, whether or not `start` is among them
       unbeaten_from : (m start : ℕ) → length b.rows ≤ start + m → from ≤ start → (z : ℕ) → Extends b w start k x z →
           beats b z (chosen r) ≡ true → ⊥
       unbeaten_from zero start past above z grown over =
-          let same : z ≡ chosen (get_or choices 64 blank) =
+          let same : z ≡ x =
           nobody_new b limits w start k x is_sound.feasible z grown (λ j h.
-          ⊎_elim (λ was. was) (λ new. absurd (omega (arith, (grown.candidate.feasible.part j h).exists))) (grown.new j h))
-          ∙ sym (ap chosen so_far.own) in
-          behind 64 (omega arith) (subst (λ y. beats b y (chosen r) ≡ true) same over)
+          ⊎_elim (λ was. was) (λ new. absurd (omega (arith, (grown.candidate.feasible.part j h).exists))) (grown.new j h)) in
+          behind c so_far.own (subst (λ y. beats b y (chosen r) ≡ true) same over)
       unbeaten_from (suc m) start past above z grown over =
           ⊎_elim
           (λ (here : Has z start).
           let exists = (grown.candidate.feasible.part start here).exists in
-          let y = chosen (get_or choices start blank) in
-          leads_not_onward (welfare b z) (welfare b y) (welfare b (chosen r)) z y (chosen r)
-          (so_far.best start above (omega arith) z grown here) (behind start (omega (arith, limits.few_rows))) over)
+          let (d, at, unbeaten) = so_far.best start above (omega arith) z grown here in
+          leads_not_onward (welfare b z) (welfare b (chosen d)) (welfare b (chosen r)) z (chosen d) (chosen r) unbeaten (behind d at) over)
           (λ lacks.
           unbeaten_from m (suc start) (omega arith) (omega arith) z (record {
             candidate = grown.candidate;
             old = grown.old;
             new = λ i h.
-                ⊎_elim inl (λ from_start.
-                ⊎_elim (λ (e : i ≡ start). absurd (lacks (subst (Has z) e h))) (λ ne. inr (omega arith)) (cases_eq i start)) (grown.new i h);
+                ⊎_elim inl
+                (λ from_start. ⊎_elim (λ (e : i ≡ start). absurd (lacks (subst (Has z) e h))) (λ ne. inr (omega arith)) (cases_eq i start))
+                (grown.new i h);
           }) over) (cases_eq (z / 2 ^ start % 2) 1)
 
       pub gathered_end : Sound b w r × BestExtension b w from k x (chosen r)
       gathered_end = (
-        sound_r,
+        so_far.sound r foremost.there,
         record {
-          extends = subst (λ (d : Choice). Extends b w from k x (chosen d)) foremost.there
-              (so_far.grown foremost.place (omega (arith, foremost.first.inside)));
+          extends = so_far.grown r foremost.there;
           unbeaten = unbeaten_from (length b.rows) from (omega arith) (omega arith);
         },
       )

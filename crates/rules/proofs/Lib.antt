@@ -1,5 +1,6 @@
 pub mod Unmoved
 mod WaitingLists
+mod Numbered
 mod Taken
 mod Midway
 mod Serving

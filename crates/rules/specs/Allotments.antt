@@ -16,4 +16,4 @@ Grants a j bundle r = Adds a.winners.word j r.winners.word × Joins a.taken.word
 abbrev pub Offers : Allotment → ℕ → ℕ → Allotment → Type 0
 Offers a j bundle r =
     (Meet bundle a.taken.word × (r ≡ a))
-    ⊎ ((Meet bundle a.taken.word → ⊥) × Adds a.winners.word j r.winners.word × Joins a.taken.word bundle r.taken.word)
+    ⊎ ((Meet bundle a.taken.word → ⊥) × Grants a j bundle r)

@@ -23,7 +23,8 @@ candidate_revalued j v b k w x =
     )
 
 -- x is the best before j's value is raised, y after
-module _ (k : ℕ) (b : Book) (w j v : ℕ) (raises : Raises b j v) (x y : ℕ) (is_x : IsBest k b w x) (is_y : IsBest k (with_value j v b) w y) where
+module _ (k : ℕ) (b : Book) (w j v : ℕ) (raises : Raises b j v) (x y : ℕ)
+    (is_x : IsBest k b w x) (is_y : IsBest k (with_value j v b) w y) where
   abbrev raised : Book
   raised = with_value j v b
 

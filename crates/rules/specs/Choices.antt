@@ -1,9 +1,8 @@
 -- Sets of bidders as the search for the best of few carries them.
-use Rattle.std.specs.Prelude.{◌≡◌, ℕ, ◌+◌, ◌≤◌, true, ◌⊎◌, List, Option, MatchOption, ◌≢◌, slice_index_or}
+use Rattle.std.specs.Prelude.{◌≡◌, ℕ, ◌+◌, ◌≤◌, true, ◌⊎◌, List, Option, MatchOption, Contains, ◌≢◌}
 use Rattle.sets.specs.Members.{Has, size, NoMember, Meet}
 use Rattle.book.specs.declared.row.Row.{Row}
 use Rattle.book.specs.Model.{Book, row, welfare}
-use Rattle.ranking.specs.Orders.{FirstOf}
 use Rattle.ranking.specs.Rankings.{leads}
 use Rattle.rules.specs.declared.choices.Choice.{Choice}
 use Rattle.rules.specs.Allotments.{Taken, Grants}
@@ -13,10 +12,6 @@ use Rattle.rules.specs.Laws.{TakesPart, Feasible}
 -- the word of its bidders
 abbrev pub chosen : Choice → ℕ
 chosen c = c.allotment.winners.word
-
--- what a list of choices reads past its end
-abbrev pub blank : Choice
-blank = record { allotment = record { winners = record { word = 0 }; taken = record { word = 0 } }; welfare = 0 }
 
 -- ---- one choice
 
@@ -51,11 +46,10 @@ JoinedBy b admitted c j r = MatchOption r (Free b admitted c j → ⊥) (λ d. F
 abbrev pub Precedes : Choice → Choice → Type 0
 Precedes a b = leads a.welfare b.welfare (chosen a) (chosen b) ≡ true
 
--- r is one of the choices, and no other comes before it
+-- r is one of the choices, and none of them comes before it
 pub record Foremost (choices : List Choice) (r : Choice) : Type 0 where
-  pub place : ℕ
-  pub first : FirstOf Precedes choices place
-  pub there : slice_index_or choices place blank ≡ r
+  pub there : Contains choices r
+  pub first : (d : Choice) → Contains choices d → Precedes d r → ⊥
 
 -- ---- what a set can grow to
 

@@ -1,17 +1,15 @@
 -- The laws of feasibility: all that the proofs about rules know of which bidders can be served together.
-use Rattle.std.specs.Prelude.{◌≡◌, ℕ, zero, suc, ◌^◌, ◌<◌, Bool, true, not, ◌&&◌, ◌⊎◌, ◌↔◌, length, Decides, ◌==◌, ◌≢◌, bit_and, refl}
-use Rattle.std.proofs.Math.Logic.{⊎_elim}
-use Rattle.std.proofs.Math.Path.{sym}
-use Rattle.std.proofs.Common.{ap, subst, subst₂, ◌∙◌, arith}
-use Rattle.std.proofs.Math.Pow.{pow_mono}
-use Rattle.std.proofs.lemmas.Bool.{and_from, and_parts, cases_Bool, cases_eq, eqb-false, ne_eqb, not-true, not_from_false, both_ways}
+use Rattle.std.specs.Prelude.{◌≡◌, ℕ, ◌^◌, ◌<◌, Bool, true, not, ◌⊎◌, ◌↔◌, length, Decides, ◌≢◌}
+use Rattle.std.proofs.Common.{sym, ap, ◌∙◌, subst, subst₂, ⊎_elim, pow_mono, arith}
 use Rattle.sets.specs.declared.items.Bundle.{Bundle}
 use Rattle.sets.specs.Members.{Meet}
+use Rattle.std.proofs.lemmas.Bool.Decides.{Decides-and, Decides-eqb, Decides-not}
+use Rattle.sets.proofs.Selected.{decides_every}
 use Rattle.sets.proofs.Words.{decides_meet, within_below}
 use Rattle.book.specs.Limits.{WithinLimits}
 use Rattle.book.specs.Model.{Book, row, with_value}
 use Rattle.book.proofs.Revalued.{revalued_bundle}
-use Rattle.rules.specs.Feasible.{Share, Fits, FitsBeside, fits_beside}
+use Rattle.rules.specs.Feasible.{Share, Fits, FitsBeside, clashes, fits_beside}
 
 -- every member of s is one of t
 abbrev pub Inside : (ℕ → Bool) → (ℕ → Bool) → Type 0
@@ -87,48 +85,20 @@ module _ (j v : ℕ) (b : Book) where
 
 -- ---- the test
 
--- nothing below n is bad
-none_bad : (ℕ → Bool) → ℕ → Bool
-none_bad bad zero = true
-none_bad bad (suc k) = not (bad k) && none_bad bad k
-
-decides_none : (bad : ℕ → Bool) (n : ℕ) → Decides (none_bad bad n) ((k : ℕ) → k < n → bad k ≢ true)
-unfolding none_bad
-decides_none bad zero = ((λ yea k l. absurd (omega arith)), (λ good. refl))
-decides_none bad (suc n) =
-    let rest = decides_none bad n in (
-      (λ yea k l.
-          let parts = and_parts _ _ yea in
-          ⊎_elim (λ (e : k ≡ n) (h : bad k ≡ true). both_ways _ (not-true _ parts.0) (sym (ap bad e) ∙ h))
-          (λ ne. rest.0 parts.1 k (omega arith)) (cases_eq k n)),
-      (λ good.
-          and_from _ _ (⊎_elim (λ h. absurd (good n (omega arith) h)) (not_from_false (bad n)) (cases_Bool (bad n)))
-          (rest.1 (λ k l. good k (omega arith)))),
-    )
-
--- k is another member of s than j and shares an item with it
-clashes : Book → (ℕ → Bool) → ℕ → ℕ → Bool
-clashes b s j k = s k && (not (k == j) && not (bit_and (row b k).bundle.word (row b j).bundle.word == 0))
-
 module _ (b : Book) (limits : WithinLimits b) (s : ℕ → Bool) (j : ℕ) where
-  decides_clashes : (k : ℕ) → k < length b.rows → Decides (clashes b s j k) ((s k ≡ true) × (k ≢ j) × Share b k j)
-  unfolding clashes
+  decides_clashes : (k : ℕ) → k < length b.rows → Decides (clashes b s j k) ((s k ≡ true) × ((k ≢ j) × Share b k j))
   decides_clashes k l =
       let word = (row b k).bundle.word in
       let small : word < 2 ^ 64 =
       omega (arith, within_below b.items word (limits.each_row k l).known_items, pow_mono limits.few_items) in
-      let meet = decides_meet word (row b j).bundle.word small in (
-        (λ yea.
-            let parts = and_parts _ _ yea in
-            let others = and_parts _ _ parts.1 in
-            (parts.0, eqb-false _ _ (not-true _ others.0), meet.0 others.1)),
-        (λ h. and_from _ _ h.0 (and_from _ _ (not_from_false _ (ne_eqb _ _ h.1)) (meet.1 h.2))),
-      )
+      let meet = decides_meet word (row b j).bundle.word small in
+      Decides-and _ _ ((λ h. h), (λ h. h)) (Decides-and _ _ (Decides-not _ (Decides-eqb k j)) meet)
 
   pub decides_beside : ((k : ℕ) → s k ≡ true → k < length b.rows) → Decides (fits_beside b s j) (FitsBeside b s j)
-  unfolding none_bad clashes FitsBeside fits_beside
+  unfolding FitsBeside fits_beside
   decides_beside below =
-      let none = decides_none (clashes b s j) (length b.rows) in (
-        (λ yea k hk ne share. let l = below k hk in none.0 yea k l ((decides_clashes k l).1 (hk, ne, share))),
-        (λ fits. none.1 (λ k l bad. let h = (decides_clashes k l).0 bad in fits k h.0 h.1 h.2)),
+      let each = decides_every (λ k. not (clashes b s j k)) (length b.rows) in
+      let fine = λ (k : ℕ) (l : k < length b.rows). Decides-not _ (decides_clashes k l) in (
+        (λ yea k hk ne share. let l = below k hk in (fine k l).0 (each.0 yea k l) (hk, (ne, share))),
+        (λ fits. each.1 (λ k l. (fine k l).1 (λ h. fits k h.0 h.1.0 h.1.1))),
       )

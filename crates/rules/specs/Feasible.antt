@@ -1,6 +1,6 @@
 -- Which bidders can be served together. A set of bidders is given here by its test: a word w by `has w`.
-use Rattle.std.specs.Prelude.{◌≡◌, ℕ, zero, suc, Bool, true, not, ◌&&◌, length, ◌==◌, ◌≢◌, bit_and}
-use Rattle.sets.specs.Members.{has, Meet}
+use Rattle.std.specs.Prelude.{◌≡◌, ℕ, Bool, true, not, ◌&&◌, length, ◌==◌, ◌≢◌, bit_and}
+use Rattle.sets.specs.Members.{has, every, Meet}
 use Rattle.book.specs.Model.{Book, row}
 use Rattle.book.specs.Runs.{stands}
 
@@ -16,14 +16,13 @@ Fits b set = (j k : ℕ) → set j ≡ true → set k ≡ true → (j ≢ k) →
 unfoldable pub FitsBeside : Book → (ℕ → Bool) → ℕ → Type 0
 FitsBeside b set j = (k : ℕ) → set k ≡ true → (k ≢ j) → Share b k j → ⊥
 
--- the same as a test, for a set of bidders who have rows
+-- whether k is another member of the set than j and shares an item with it
+abbrev pub clashes : Book → (ℕ → Bool) → ℕ → ℕ → Bool
+clashes b set j k = set k && (not (k == j) && not (bit_and (row b k).bundle.word (row b j).bundle.word == 0))
+
+-- `FitsBeside` as a test, for a set of bidders who have rows
 unfoldable pub fits_beside : Book → (ℕ → Bool) → ℕ → Bool
-fits_beside b set j = none (length b.rows)
-  where
-    -- none of the first n is such a member
-    none : ℕ → Bool
-    none zero = true
-    none (suc k) = not (set k && (not (k == j) && not (bit_and (row b k).bundle.word (row b j).bundle.word == 0))) && none k
+fits_beside b set j = every (λ k. not (clashes b set j k)) (length b.rows)
 
 -- whether j has a row that stands, and is admitted
 abbrev pub takes_part : Book → ℕ → ℕ → Bool

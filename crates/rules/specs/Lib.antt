@@ -2,6 +2,7 @@ pub mod Feasible
 pub mod Laws
 pub mod Greedy
 pub mod Best
+pub mod Rounds
 pub mod Allotments
 pub mod Choices
 pub mod WaitingLists

@@ -1,10 +1,13 @@
 -- The order in which a ranking takes the bidders of a book that can exist.
-use Rattle.std.specs.Prelude.{◌≡◌, ℕ, zero, suc, ◌+◌, ◌<◌, ◌≤◌, Bool, true, false, cond, ◌⊎◌, length, ◌≢◌}
+use Rattle.std.specs.Prelude.{◌≡◌, ℕ, zero, suc, ◌<◌, ◌≤◌, Bool, true, false, ◌⊎◌, length, ◌≢◌, ◌↔◌}
 use Rattle.std.proofs.Common.{inl, inr, sym, ap, subst, ◌∙◌}
 use Rattle.std.proofs.Math.Logic.{⊎_elim}
 use Rattle.std.proofs.Math.Path.{refl}
 use native.Mathlib.Omega.{arith}
-use Rattle.std.proofs.lemmas.Bool.{cases_Bool, cases_eq, both_ways, false≢true}
+use Rattle.std.proofs.lemmas.Bool.{cases_Bool, cases_eq, both_ways}
+use Rattle.sets.specs.Members.{Has, sum_over, those}
+use Rattle.sets.proofs.Selected.{those_selects}
+use Rattle.sets.proofs.Sums.{sum_at_most, sum_larger}
 use Rattle.book.specs.Limits.{WithinLimits}
 use Rattle.book.specs.Model.{Book}
 use Rattle.ranking.specs.Rankings.{RowOrder, Ranks}
@@ -15,55 +18,15 @@ use Rattle.ranking.proofs.Seen.{seen_possible}
 abbrev pub Before : RowOrder → Book → ℕ → ℕ → Type 0
 Before before b k j = before (seen b k) (seen b j) ≡ true
 
--- ---- of how many numbers below n a test holds
-
-count : (ℕ → Bool) → ℕ → ℕ
-count p zero = 0
-count p (suc n) = count p n + cond (p n) 1 0
-
-mark_le : (x y : Bool) → (x ≡ true → y ≡ true) → cond {A = ℕ} x 1 0 ≤ cond y 1 0
-mark_le false y more = omega arith
-mark_le true true more = omega arith
-mark_le true false more = absurd (false≢true (more refl))
-
-mark_lt : (x y : Bool) → (x ≢ true) → y ≡ true → cond {A = ℕ} x 1 0 < cond y 1 0
-mark_lt true y nay yea = absurd (nay refl)
-mark_lt false true nay yea = omega arith
-mark_lt false false nay yea = absurd (false≢true yea)
-
-module _ (p q : ℕ → Bool) where
-  count_le : (n : ℕ) → ((k : ℕ) → k < n → p k ≡ true → q k ≡ true) → count p n ≤ count q n
-  unfolding count
-  count_le zero more = omega arith
-  count_le (suc n) more =
-      let rest = count_le n (λ k l. more k (omega arith)) in
-      let here = mark_le (p n) (q n) (more n (omega arith)) in
-      omega arith
-
-  count_lt : (n m : ℕ) → m < n → ((k : ℕ) → k < n → p k ≡ true → q k ≡ true) → (p m ≢ true) → q m ≡ true → count p n < count q n
-  unfolding count
-  count_lt zero m l more nay yea = absurd (omega arith)
-  count_lt (suc n) m l more nay yea =
-      ⊎_elim
-      (λ (e : m ≡ n).
-      let rest = count_le n (λ k l. more k (omega arith)) in
-      let here = mark_lt (p n) (q n) (λ h. nay (ap p e ∙ h)) (sym (ap q e) ∙ yea) in
-      omega arith)
-      (λ ne.
-      let rest = count_lt n m (omega arith) (λ k l. more k (omega arith)) nay yea in
-      let here = mark_le (p n) (q n) (more n (omega arith)) in
-      omega arith) (cases_eq m n)
-
-count_all : (n : ℕ) → count (λ _. true) n ≡ n
-unfolding count
-count_all zero = refl
-count_all (suc n) = let rest = count_all n in omega arith
-
 -- ---- the order
 
--- how many bidders come before j
+-- those who come before j
+abbrev earlier : RowOrder → Book → ℕ → ℕ
+earlier before b j = those (λ k. before (seen b k) (seen b j)) (length b.rows)
+
+-- how many they are
 pub rank : RowOrder → Book → ℕ → ℕ
-rank before b j = count (λ k. before (seen b k) (seen b j)) (length b.rows)
+rank before b j = sum_over (earlier before b j) (λ _. 1) (length b.rows)
 
 -- l is the last of the members of s below n
 pub record LastOf (before : RowOrder) (b : Book) (s : ℕ → Bool) (n l : ℕ) : Type 0 where
@@ -106,18 +69,28 @@ module _ (before : RowOrder) (ranks : Ranks before) (b : Book) (limits : WithinL
   pub one_way : (j k : ℕ) → j < length b.rows → k < length b.rows → Before before b j k → Before before b k j → ⊥
   one_way j k lj lk there back = never_self j lj (onward j k j lj lk lj there back)
 
+  is_earlier : (k j : ℕ) → Has (earlier before b j) k ↔ ((k < length b.rows) × Before before b k j)
+  is_earlier k j = those_selects (λ i. before (seen b i) (seen b j)) (length b.rows) k
+
+  not_earlier : (j : ℕ) → Has (earlier before b j) j → ⊥
+  not_earlier j h = let own = (is_earlier j j).0 h in never_self j own.0 own.1
+
   pub rank_lt : (k j : ℕ) → k < length b.rows → j < length b.rows → Before before b k j → rank before b k < rank before b j
   unfolding rank
   rank_lt k j lk lj first =
-      count_lt (λ i. before (seen b i) (seen b k)) (λ i. before (seen b i) (seen b j)) (length b.rows) k lk
-      (λ i li earlier. onward i k j li lk lj earlier first) (never_self k lk) first
+      let more = sum_larger (earlier before b k) (earlier before b j) k (λ _. 1) ((is_earlier k j).1 (lk, first)) (not_earlier k)
+      (length b.rows)
+      (λ i h. let (li, before_k) = (is_earlier i k).0 h in (is_earlier i j).1 (li, onward i k j li lk lj before_k first)) lk in
+      omega arith
 
   pub rank_below : (j : ℕ) → j < length b.rows → rank before b j < length b.rows
   unfolding rank
   rank_below j lj =
       let n = length b.rows in
-      let lt = count_lt (λ i. before (seen b i) (seen b j)) (λ _. true) n j lj (λ i li h. refl) (never_self j lj) refl in
-      omega (arith, count_all n)
+      let all = those_selects (λ _. true) n in
+      let more = sum_larger (earlier before b j) (those (λ _. true) n) j (λ _. 1) ((all j).1 (lj, refl)) (not_earlier j) n
+      (λ i h. (all i).1 (((is_earlier i j).0 h).0, refl)) lj in
+      omega (arith, sum_at_most (those (λ _. true) n) (λ _. 1) 1 n (λ k l. omega arith))
 
   -- what holds of a bidder whenever it holds of those before it, holds of all
   module _ (P : ℕ → Type 0)

@@ -1,11 +1,10 @@
 ghost use Rattle.std.specs.Prelude.{◌≡◌};
-ghost use Rattle.book.specs.Views.{closed_view};
 ghost use Rattle.rules.specs.Greedy.{IsGreedy, greedy, GreedyTheorems};
 ghost use Rattle.rules.specs.GreedyExists.{greedy_theorems};
 
 use crate::allotment::Allotment;
 use crate::interface::AllocationRule;
-use crate::waiting::Contenders;
+use crate::rounds::Round;
 use book::ClosedBook;
 use ranking::{Ranking, first};
 use sets::BidderSet;
@@ -16,22 +15,6 @@ pub struct Greedy<R: Ranking> {
     pub ranking: R,
 }
 
-impl<R: Ranking> Greedy<R> {
-    fn serve(&self, book: &ClosedBook, admitted: BidderSet) -> BidderSet
-        ensures rule { result.word ≡ greedy (R.before self.now.ranking) (closed_view book.now) admitted.word }
-        ensures turns { IsGreedy (R.before self.now.ranking) (closed_view book.now) admitted.word result.word }
-        ensures theorems { GreedyTheorems (R.before self.now.ranking) }
-    {
-        let mut waiting = Contenders::of(book, admitted);
-        let mut allotment = Allotment::none();
-        while let Some(place) = first(&self.ranking, waiting.as_slice()) {
-            let next = waiting.swap_remove(place).number;
-            allotment = allotment.offer(next, book.rows()[next].bundle);
-        }
-        allotment.winners
-    }
-}
-
 impl<R: Ranking> AllocationRule for Greedy<R> {
     ghost winners = { λ s. greedy (R.before s.ranking) };
 
@@ -39,11 +22,19 @@ impl<R: Ranking> AllocationRule for Greedy<R> {
 
     ghost bitonic = { λ rule. (greedy_theorems (R.before rule.ranking) (R.ranks rule.ranking)).lawful.bitonic };
 
+    #[tactic(auto, using(crate::proofs::Serving::serving_start))]
     fn choose(&self, book: &ClosedBook, admitted: BidderSet) -> BidderSet
-        ensures rule { result.word ≡ greedy (R.before self.now.ranking) (closed_view book.now) admitted.word }
-        ensures turns { IsGreedy (R.before self.now.ranking) (closed_view book.now) admitted.word result.word }
+        ensures rule { result.word ≡ greedy (R.before self.now.ranking) book.now admitted.word }
+        ensures turns { IsGreedy (R.before self.now.ranking) book.now admitted.word result.word }
         ensures theorems { GreedyTheorems (R.before self.now.ranking) }
     {
-        self.serve(book, admitted)
+        let round = Round::new(book, admitted);
+        let mut waiting = round.contenders();
+        let mut allotment = Allotment::none();
+        while let Some(place) = first(&self.ranking, waiting.as_slice()) {
+            let next = waiting.swap_remove(place).number;
+            allotment = allotment.offer(next, round.rows[next].bundle);
+        }
+        allotment.winners
     }
 }

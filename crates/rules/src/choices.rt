@@ -4,10 +4,11 @@ ghost use Rattle.std.proofs.Common.{rules};
 use crate::allotment::Allotment;
 use book::ROW_LIMIT;
 use ranking::Order;
+use std::cmp::Reverse;
 
 mod methods;
 
-/// A place for each bidder, and one more.
+/// Room for one choice of each bidder, and one more.
 pub(crate) const PLACES: usize = ROW_LIMIT + 1;
 
 /// A set of bidders who share no item, and its welfare.
@@ -29,7 +30,7 @@ impl Order<Choice> for ByWelfare {
     ghost ordered = { Prim.search rules };
 
     fn comes_before(&self, a: &Choice, b: &Choice) -> bool {
-        a.welfare > b.welfare
-            || a.welfare == b.welfare && a.allotment.winners.word() < b.allotment.winners.word()
+        (Reverse(a.welfare), a.allotment.winners.word())
+            < (Reverse(b.welfare), b.allotment.winners.word())
     }
 }

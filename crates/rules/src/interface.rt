@@ -1,5 +1,4 @@
 ghost use Rattle.std.specs.Prelude.{◌≡◌};
-ghost use Rattle.book.specs.Views.{closed_view};
 ghost use Rattle.rules.specs.Laws.{Rule, Monotone, Bitonic};
 
 use book::ClosedBook;
@@ -9,8 +8,9 @@ use sets::BidderSet;
 pub trait AllocationRule {
     ghost winners: { Self → Rule };
 
+    // Two parameters and no struct: a rule over another one passes the book on, and may admit fewer.
     fn choose(&self, book: &ClosedBook, admitted: BidderSet) -> BidderSet
-        ensures { result.word ≡ winners self.now (closed_view book.now) admitted.word };
+        ensures { result.word ≡ winners self.now book.now admitted.word };
 
     // Winners take part and share no item; who wins still wins with a greater value.
     ghost monotone: { (rule : Self) → Monotone (winners rule) };

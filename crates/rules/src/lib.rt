@@ -6,7 +6,7 @@ mod best_of_few;
 mod by_ranking;
 mod choices;
 mod interface;
-mod waiting;
+mod rounds;
 
 pub use best_of_few::Best;
 pub use by_ranking::Greedy;

@@ -1,7 +1,8 @@
 -- An order, a ranking, a bundle test and an allocation rule of a user's own.
-use Rattle.std.specs.Prelude.{ℕ, ◌%◌, ◌<◌, not, ◌&&◌, ◌||◌, ◌↔◌, length, ◌==◌, nat_lt}
+use Rattle.std.specs.Prelude.{ℕ, ◌%◌, ◌<◌, not, ◌&&◌, ◌||◌, ◌↔◌, List, length, ◌==◌, nat_lt, Option, MatchOption}
 use Rattle.sets.specs.Members.{Has, those, every, size}
-use Rattle.book.specs.Model.{Book}
+use Rattle.book.specs.declared.row.Row.{Row}
+use Rattle.book.specs.Model.{Book, book}
 use Rattle.ranking.specs.Rankings.{RowOrder}
 use Rattle.rules.specs.Feasible.{takes_part}
 use Rattle.rules.specs.Laws.{Rule, TakesPart}
@@ -26,6 +27,12 @@ even_size bundle = size bundle % 2 == 0
 -- j takes part, and nobody below j does: exactly such a j wins
 abbrev pub FirstComes : Book → ℕ → ℕ → Type 0
 FirstComes b admitted r = (j : ℕ) → Has r j ↔ (TakesPart b admitted j × ((k : ℕ) → k < j → TakesPart b admitted k → ⊥))
+
+-- what is found is the first of the rows whose bidder takes part; how many items their book has does not matter
+abbrev pub FirstTakingPart : List Row → ℕ → Option ℕ → Type 0
+FirstTakingPart rows admitted found =
+    let part = TakesPart (book 0 rows) admitted in
+    MatchOption found ((k : ℕ) → part k → ⊥) (λ j. part j × ((k : ℕ) → k < j → part k → ⊥))
 
 -- the rule
 unfoldable pub first_come : Rule

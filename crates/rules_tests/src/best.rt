@@ -1,8 +1,10 @@
-use crate::books::{book, check_award, check_choice, items, single_items, small_book};
+use crate::books::{
+    BY_ROOT, BY_VALUE, better, book, check_award, check_choice, filtered, items, single_items,
+    small_book,
+};
 use book::{ClosedBook, OpenBook, Refusal};
-use layers::{Better, Filtered, Fit};
-use ranking::{ByRoot, ByValue};
-use rules::{Best, Greedy};
+use layers::Fit;
+use rules::Best;
 use sets::Bundle;
 use std::process::Abort;
 use std::test::Fail;
@@ -11,8 +13,8 @@ use std::test::Fail;
 type Awards<'a> = [(&'a [usize], u64); 3];
 
 fn check_best(rt: &impl Abort, book: &ClosedBook, awards: &Awards<'_>) -> Result<(), Fail> {
-    for (k, (winners, welfare)) in awards.iter().enumerate() {
-        check_award(rt, &Best::new(k + 1)?, book, winners, *welfare);
+    for (k, &(winners, welfare)) in (1..=3).zip(awards) {
+        check_award(rt, &Best::new(k)?, book, winners, welfare);
     }
     Ok(())
 }
@@ -92,9 +94,9 @@ fn sixty_four_bidders(rt: HostRuntime) -> Result<(), Fail> {
     let mut rising = OpenBook::new();
     let mut clashing = OpenBook::new();
     let mut greatest = OpenBook::new();
-    for bidder in 0..64 {
-        rising.enter(Bundle::single(bidder), bidder as u32)?;
-        clashing.enter(Bundle::single(0), bidder as u32)?;
+    for (bidder, value) in (0..64).zip(0..64) {
+        rising.enter(Bundle::single(bidder), value)?;
+        clashing.enter(Bundle::single(0), value)?;
         greatest.enter(Bundle::single(bidder), 100_000_000)?;
     }
     check_best(
@@ -120,23 +122,11 @@ fn sixty_four_bidders(rt: HostRuntime) -> Result<(), Fail> {
 #[test]
 fn best_under_layers(rt: HostRuntime) -> Result<(), Fail> {
     let book = small_book()?.close();
-    let value_or_pair = Better {
-        first: Greedy { ranking: ByValue },
-        second: Best::new(2)?,
-    };
-    check_award(&rt, &value_or_pair, &book, &[1, 2], 130);
-    let single_or_pair = Better {
-        first: Filtered {
-            rule: Greedy { ranking: ByRoot },
-            test: Fit::new(1)?,
-        },
-        second: Best::new(2)?,
-    };
-    check_award(&rt, &single_or_pair, &book, &[1, 2], 130);
-    let small_single = Filtered {
-        rule: Best::new(1)?,
-        test: Fit::new(2)?,
-    };
+    let pair = Best::new(2)?;
+    check_award(&rt, &better(BY_VALUE, pair), &book, &[1, 2], 130);
+    let single_by_root = filtered(BY_ROOT, Fit::new(1)?);
+    check_award(&rt, &better(single_by_root, pair), &book, &[1, 2], 130);
+    let small_single = filtered(Best::new(1)?, Fit::new(2)?);
     check_award(&rt, &small_single, &book, &[1], 70);
     Ok(())
 }

@@ -1,31 +1,45 @@
-//! Books that several tests ask about, and checks of what a rule answers.
+//! Books and rules that several tests ask about, and checks of what a rule answers.
 use book::{ClosedBook, OpenBook};
-use rules::AllocationRule;
+use layers::{Better, BundleTest, Filtered};
+use ranking::{ByItem, ByRoot, ByValue};
+use rules::{AllocationRule, Greedy};
 use sets::{BidderSet, Bundle};
 use settlement::award;
 use std::process::Abort;
 use std::test::Fail;
 
+pub(crate) const BY_VALUE: Greedy<ByValue> = Greedy { ranking: ByValue };
+
+pub(crate) const BY_ROOT: Greedy<ByRoot> = Greedy { ranking: ByRoot };
+
+pub(crate) const BY_ITEM: Greedy<ByItem> = Greedy { ranking: ByItem };
+
+/// The rule, shown only the bundles that pass.
+pub(crate) fn filtered<A: AllocationRule, T: BundleTest>(rule: A, test: T) -> Filtered<A, T> {
+    Filtered { rule, test }
+}
+
+/// The better of the two rules.
+pub(crate) fn better<A: AllocationRule, B: AllocationRule>(first: A, second: B) -> Better<A, B> {
+    Better { first, second }
+}
+
+// Twice, since the two kinds of set share no type: one expression each.
 pub(crate) fn bidders(numbers: &[usize]) -> BidderSet {
-    let mut set = BidderSet::empty();
-    for number in numbers {
-        set = set.with(*number);
-    }
-    set
+    numbers
+        .iter()
+        .copied()
+        .fold(BidderSet::empty(), BidderSet::with)
 }
 
 pub(crate) fn items(numbers: &[usize]) -> Bundle {
-    let mut bundle = Bundle::empty();
-    for number in numbers {
-        bundle = bundle.with(*number);
-    }
-    bundle
+    numbers.iter().copied().fold(Bundle::empty(), Bundle::with)
 }
 
 pub(crate) fn book(rows: &[(Bundle, u32)]) -> Result<OpenBook, Fail> {
     let mut book = OpenBook::new();
-    for (bundle, value) in rows {
-        book.enter(*bundle, *value)?;
+    for &(bundle, value) in rows {
+        book.enter(bundle, value)?;
     }
     Ok(book)
 }
@@ -48,6 +62,7 @@ pub(crate) fn small_book() -> Result<OpenBook, Fail> {
     ])
 }
 
+// In both checks what is asked, then what is expected: a struct of some of it would only be taken apart again.
 pub(crate) fn check_award<R: AllocationRule>(
     rt: &impl Abort,
     rule: &R,

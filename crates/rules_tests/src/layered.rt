@@ -1,30 +1,19 @@
-use crate::books::{book, check_award, check_choice, items, single_items, small_book};
+use crate::books::{
+    BY_ITEM, BY_ROOT, BY_VALUE, better, book, check_award, check_choice, filtered, items,
+    single_items, small_book,
+};
 use crate::own_rule::FirstCome;
 use crate::own_test::EvenSize;
-use book::{ClosedBook, OpenBook, Refusal};
-use layers::{Better, BundleTest, Filtered, Fit, Hold};
-use ranking::{ByItem, ByRoot, ByValue};
-use rules::{AllocationRule, Greedy};
+use book::{OpenBook, Refusal};
+use layers::{BundleTest, Fit, Hold};
 use sets::Bundle;
 use std::process::Abort;
 use std::test::Fail;
 
 fn check_passes<T: BundleTest>(rt: &impl Abort, test: &T, cases: &[(Bundle, bool)]) {
-    for (bundle, passes) in cases {
-        assert_eq!(rt; test.passes(*bundle), *passes);
+    for &(bundle, passes) in cases {
+        assert_eq!(rt; test.passes(bundle), passes);
     }
-}
-
-/// Greedy by value, shown the bundles that pass.
-fn by_value<T: BundleTest>(test: T) -> Filtered<Greedy<ByValue>, T> {
-    let rule = Greedy { ranking: ByValue };
-    Filtered { rule, test }
-}
-
-/// Greedy by value per item, shown the bundles that pass.
-fn by_item<T: BundleTest>(test: T) -> Filtered<Greedy<ByItem>, T> {
-    let rule = Greedy { ranking: ByItem };
-    Filtered { rule, test }
 }
 
 #[test]
@@ -36,7 +25,7 @@ fn arguments(rt: HostRuntime) {
     for (item, refusal) in [(0, None), (63, None), (64, refused)] {
         assert_eq!(rt; Hold::new(item).err(), refusal);
     }
-    assert_eq!(rt; Refusal::ArgumentOutOfRange.number(), 16);
+    assert_eq!(rt; u8::from(Refusal::ArgumentOutOfRange), 16);
 }
 
 #[test]
@@ -87,12 +76,12 @@ fn bundles_of_an_even_size(rt: HostRuntime) {
 fn one_filter(rt: HostRuntime) -> Result<(), Fail> {
     let book = small_book()?.close();
     // bidder 0 would win the award, so that striking it from the winners would leave nobody
-    check_award(&rt, &by_value(Fit::new(2)?), &book, &[1, 2], 130);
-    check_award(&rt, &by_value(Fit::new(1)?), &book, &[3], 40);
-    check_award(&rt, &by_value(Hold::new(3)?), &book, &[1], 70);
-    check_award(&rt, &by_item(Hold::new(0)?), &book, &[3], 40);
-    check_award(&rt, &by_value(EvenSize), &book, &[0], 100);
-    check_award(&rt, &by_item(EvenSize), &book, &[1, 2], 130);
+    check_award(&rt, &filtered(BY_VALUE, Fit::new(2)?), &book, &[1, 2], 130);
+    check_award(&rt, &filtered(BY_VALUE, Fit::new(1)?), &book, &[3], 40);
+    check_award(&rt, &filtered(BY_VALUE, Hold::new(3)?), &book, &[1], 70);
+    check_award(&rt, &filtered(BY_ITEM, Hold::new(0)?), &book, &[3], 40);
+    check_award(&rt, &filtered(BY_VALUE, EvenSize), &book, &[0], 100);
+    check_award(&rt, &filtered(BY_ITEM, EvenSize), &book, &[1, 2], 130);
     Ok(())
 }
 
@@ -105,14 +94,8 @@ fn check_stacked<S: BundleTest + Copy, T: BundleTest + Copy>(
     welfare: u64,
 ) -> Result<(), Fail> {
     let book = small_book()?.close();
-    let a_inside = Filtered {
-        rule: by_item(a),
-        test: b,
-    };
-    let b_inside = Filtered {
-        rule: by_item(b),
-        test: a,
-    };
+    let a_inside = filtered(filtered(BY_ITEM, a), b);
+    let b_inside = filtered(filtered(BY_ITEM, b), a);
     check_award(rt, &a_inside, &book, winners, welfare);
     check_award(rt, &b_inside, &book, winners, welfare);
     Ok(())
@@ -126,67 +109,37 @@ fn stacked_filters(rt: HostRuntime) -> Result<(), Fail> {
     check_stacked(&rt, Fit::new(1)?, Hold::new(3)?, &[], 0)
 }
 
-/// The better of two rules in both orders: the winners with `a` first, and with `b` first.
-fn check_better<A: AllocationRule + Copy, B: AllocationRule + Copy>(
-    rt: &impl Abort,
-    a: A,
-    b: B,
-    book: &ClosedBook,
-    a_first: &[usize],
-    b_first: &[usize],
-    welfare: u64,
-) {
-    let a_then_b = Better {
-        first: a,
-        second: b,
-    };
-    let b_then_a = Better {
-        first: b,
-        second: a,
-    };
-    check_award(rt, &a_then_b, book, a_first, welfare);
-    check_award(rt, &b_then_a, book, b_first, welfare);
-}
-
 #[test]
 fn greater_welfare_wins_in_both_orders(rt: HostRuntime) -> Result<(), Fail> {
     let book = small_book()?.close();
-    let all = Greedy { ranking: ByValue };
-    let small = by_value(Fit::new(2)?);
-    check_better(&rt, all, small, &book, &[1, 2], &[1, 2], 130);
+    let small = filtered(BY_VALUE, Fit::new(2)?);
+    check_award(&rt, &better(BY_VALUE, small), &book, &[1, 2], 130);
+    check_award(&rt, &better(small, BY_VALUE), &book, &[1, 2], 130);
     Ok(())
 }
 
 #[test]
 fn equal_welfare_goes_to_the_first_rule(rt: HostRuntime) -> Result<(), Fail> {
     let book = book(&[(items(&[0, 1]), 50), (items(&[0]), 30), (items(&[1]), 20)])?.close();
-    let all = Greedy { ranking: ByValue };
-    let small = by_value(Fit::new(1)?);
-    check_better(&rt, all, small, &book, &[0], &[1, 2], 50);
+    let small = filtered(BY_VALUE, Fit::new(1)?);
+    check_award(&rt, &better(BY_VALUE, small), &book, &[0], 50);
+    check_award(&rt, &better(small, BY_VALUE), &book, &[1, 2], 50);
     let disjoint = single_items()?.close();
-    let first_only = Filtered {
-        rule: FirstCome,
-        test: Hold::new(1)?,
-    };
-    let second_only = Filtered {
-        rule: FirstCome,
-        test: Hold::new(0)?,
-    };
-    check_better(&rt, first_only, second_only, &disjoint, &[0], &[1], 7);
+    let first_only = filtered(FirstCome, Hold::new(1)?);
+    let second_only = filtered(FirstCome, Hold::new(0)?);
+    check_award(&rt, &better(first_only, second_only), &disjoint, &[0], 7);
+    check_award(&rt, &better(second_only, first_only), &disjoint, &[1], 7);
     Ok(())
 }
 
 #[test]
 fn admitted_numbers_without_a_row(rt: HostRuntime) -> Result<(), Fail> {
     let book = small_book()?.close();
-    let small = by_value(Fit::new(2)?);
-    let better = Better {
-        first: Greedy { ranking: ByValue },
-        second: small,
-    };
+    let small = filtered(BY_VALUE, Fit::new(2)?);
+    let all_or_small = better(BY_VALUE, small);
     check_choice(&rt, &small, &book, &[0, 2, 63], &[2]);
-    check_choice(&rt, &better, &book, &[0, 1, 3, 63], &[1, 3]);
-    check_choice(&rt, &better, &book, &[4, 63], &[]);
+    check_choice(&rt, &all_or_small, &book, &[0, 1, 3, 63], &[1, 3]);
+    check_choice(&rt, &all_or_small, &book, &[4, 63], &[]);
     Ok(())
 }
 
@@ -211,37 +164,19 @@ fn first_come(rt: HostRuntime) -> Result<(), Fail> {
 #[test]
 fn layers_over_layers(rt: HostRuntime) -> Result<(), Fail> {
     let small = small_book()?.close();
-    let pairs_or_first = Better {
-        first: Filtered {
-            rule: Greedy { ranking: ByRoot },
-            test: Fit::new(2)?,
-        },
-        second: FirstCome,
-    };
+    let pairs_or_first = better(filtered(BY_ROOT, Fit::new(2)?), FirstCome);
     check_award(&rt, &pairs_or_first, &small, &[1, 2], 130);
-    let singles_or_first = Better {
-        first: Filtered {
-            rule: Greedy { ranking: ByRoot },
-            test: Fit::new(1)?,
-        },
-        second: FirstCome,
-    };
+    let singles_or_first = better(filtered(BY_ROOT, Fit::new(1)?), FirstCome);
     check_award(&rt, &singles_or_first, &small, &[0], 100);
     // of bidders 2 and 3, bidder 3 at 40 or bidder 2 at 60
-    let held = Filtered {
-        rule: singles_or_first,
-        test: Hold::new(0)?,
-    };
+    let held = filtered(singles_or_first, Hold::new(0)?);
     check_award(&rt, &held, &small, &[2], 60);
     Ok(())
 }
 
 #[test]
 fn first_come_of_even_size(rt: HostRuntime) -> Result<(), Fail> {
-    let rule = Filtered {
-        rule: FirstCome,
-        test: EvenSize,
-    };
+    let rule = filtered(FirstCome, EvenSize);
     check_award(&rt, &rule, &small_book()?.close(), &[0], 100);
     let odd_first = book(&[(items(&[0]), 9), (items(&[0, 1]), 5), (items(&[2, 3]), 8)])?;
     check_award(&rt, &rule, &odd_first.close(), &[1], 5);

@@ -15,6 +15,6 @@ impl Order<u32> for GreaterFirst {
     ghost ordered = { Prim.search rules };
 
     fn comes_before(&self, a: &u32, b: &u32) -> bool {
-        *a > *b
+        a > b
     }
 }

@@ -2,6 +2,7 @@ ghost use Rattle.rules_tests.specs.Own.{smaller_first};
 ghost use Rattle.std.proofs.Common.{rules};
 
 use ranking::{Contender, Ranking};
+use std::cmp::Reverse;
 
 /// The greater value first, of equal values the smaller bundle.
 #[derive(Clone, Copy)]
@@ -13,7 +14,6 @@ impl Ranking for SmallerFirst {
     ghost ranks = { Prim.search rules };
 
     fn comes_before(&self, a: &Contender, b: &Contender) -> bool {
-        a.value > b.value
-            || a.value == b.value && (a.size < b.size || a.size == b.size && a.number < b.number)
+        (Reverse(a.value), a.size, a.number) < (Reverse(b.value), b.size, b.number)
     }
 }

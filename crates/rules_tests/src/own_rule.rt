@@ -1,9 +1,8 @@
 ghost use Rattle.std.specs.Prelude.{◌≡◌};
-ghost use Rattle.book.specs.Views.{closed_view};
-ghost use Rattle.rules_tests.specs.Own.{FirstComes, first_come};
+ghost use Rattle.rules_tests.specs.Own.{FirstComes, FirstTakingPart, first_come};
 ghost use Rattle.rules_tests.specs.FirstComers.{first_come_lawful};
 
-use book::{ClosedBook, Mark};
+use book::{ClosedBook, Mark, Row};
 use rules::AllocationRule;
 use sets::BidderSet;
 
@@ -19,14 +18,18 @@ impl AllocationRule for FirstCome {
     ghost bitonic = { λ rule. first_come_lawful.bitonic };
 
     fn choose(&self, book: &ClosedBook, admitted: BidderSet) -> BidderSet
-        ensures rule { result.word ≡ first_come (closed_view book.now) admitted.word }
-        ensures winner { FirstComes (closed_view book.now) admitted.word result.word }
+        ensures rule { result.word ≡ first_come book.now admitted.word }
+        ensures winner { FirstComes book.now admitted.word result.word }
     {
-        for (bidder, row) in book.rows().iter().enumerate() {
-            if row.mark == Mark::Standing && admitted.has(bidder) {
-                return BidderSet::single(bidder);
-            }
-        }
-        BidderSet::empty()
+        first_taking_part(book.rows(), admitted).map_or(BidderSet::empty(), BidderSet::single)
     }
+}
+
+/// The lowest bidder who takes part.
+// Of rows and no book: beside all that is known of a closed book, the check does not find the proof.
+fn first_taking_part(rows: &[Row], admitted: BidderSet) -> Option<usize>
+    ensures { FirstTakingPart rows.now admitted.word result }
+{
+    let mut bidders = rows.iter().enumerate();
+    bidders.position(|(bidder, row)| row.mark == Mark::Standing && admitted.has(bidder))
 }

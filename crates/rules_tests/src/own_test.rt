@@ -11,6 +11,6 @@ impl BundleTest for EvenSize {
     ghost meaning = { λ _. even_size };
 
     fn passes(&self, bundle: Bundle) -> bool {
-        bundle.len() % 2 == 0
+        bundle.len().is_multiple_of(2)
     }
 }

@@ -29,18 +29,18 @@ fn row(value: u32, size: usize, number: usize) -> Result<Contender, Fail> {
 }
 
 fn check_cases<R: Ranking>(rt: &impl Abort, ranking: &R, cases: &[Case]) -> Result<(), Fail> {
-    for (value_a, size_a, value_b, size_b, lead) in cases {
+    for &(value_a, size_a, value_b, size_b, lead) in cases {
         for (number_a, number_b) in [(0, 63), (63, 0)] {
-            let a = row(*value_a, *size_a, number_a)?;
-            let b = row(*value_b, *size_b, number_b)?;
-            let a_first = match *lead {
+            let a = row(value_a, size_a, number_a)?;
+            let b = row(value_b, size_b, number_b)?;
+            let a_first = match lead {
                 Lead::A => true,
                 Lead::B => false,
                 Lead::Tie => number_a < number_b,
             };
             assert_eq!(rt; ranking.comes_before(&a, &b), a_first);
             assert_eq!(rt; ranking.comes_before(&b, &a), !a_first);
-            assert_eq!(rt; ranking.comes_before(&a, &a), false);
+            assert!(rt; !ranking.comes_before(&a, &a));
         }
     }
     Ok(())
@@ -123,5 +123,11 @@ fn first_of_numbers(rt: HostRuntime) {
     let none: [u32; 0] = [];
     assert_eq!(rt; first(&GreaterFirst, &none), None);
     assert_eq!(rt; first(&GreaterFirst, &[3, 1, 4, 1, 5, 9, 2, 6]), Some(5));
-    assert_eq!(rt; first(&GreaterFirst, &[0; 64]).is_some(), true);
+    assert!(rt; first(&GreaterFirst, &[0; 64]).is_some());
+}
+
+#[test]
+fn unused_contender(rt: HostRuntime) {
+    let unused = Contender::default();
+    assert_eq!(rt; (unused.value, unused.size, unused.number), (0, 1, 0));
 }

@@ -9,6 +9,8 @@ pub struct BidderSet {
     word: u64,
 }
 
+// No model: a clause sees the field, and with it that the word is below 2 ^ 64, which a model as a number would hide.
+// Items and bidders are two structs with operations of their own, by a rule of the project; what they share stands once, in `bits`.
 impl BidderSet {
     /// The word whose bit i says whether bidder i is a member.
     pub fn word(self) -> u64

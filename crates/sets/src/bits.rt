@@ -1,10 +1,14 @@
 //! What both kinds of set share: the members of a word. A number past 63 is a member of no set.
+// Functions of plain words and places: a struct of a word would be a third kind of set.
+#![tactic(auto, using(crate::proofs::Words::members))]
+
 ghost use Rattle.std.specs.Prelude.{◌≡◌, ◌/◌, ◌<◌, Decides, MatchOption};
 ghost use Rattle.sets.specs.Members.{Has, NoMember, Single, AllBelow, Adds, Drops, Joins, Meet, Within, Lowest, LowestCommon, size};
 
 pub(crate) fn single(place: usize) -> u64
     ensures { Single place result }
 {
+    // `checked_shl` takes a `u32`, which not every place fits
     if place < 64 { 1 << place } else { 0 }
 }
 
@@ -42,6 +46,8 @@ pub(crate) fn without(word: u64, place: usize) -> u64
     word & !single(place)
 }
 
+// its lemma alone: among those of the file the proof search gives up here
+#[tactic(auto, using(crate::proofs::Words::decides_meet))]
 pub(crate) fn meet(a: u64, b: u64) -> bool
     ensures { Decides result (Meet a b) }
 {
@@ -64,17 +70,15 @@ pub(crate) fn is_within(word: u64, bound: usize) -> bool
 pub(crate) fn len(word: u64) -> usize
     ensures { result ≡ size word }
 {
+    // `as`, since there is no `From<u32>` for `usize`.
     word.count_ones() as usize
 }
 
 pub(crate) fn lowest(word: u64) -> Option<usize>
     ensures { MatchOption result (NoMember word) (Lowest word) }
 {
-    if word == 0 {
-        None
-    } else {
-        Some(word.trailing_zeros() as usize)
-    }
+    // `as`, since there is no `From<u32>` for `usize`.
+    (word != 0).then_some(word.trailing_zeros() as usize)
 }
 
 pub(crate) fn lowest_common(a: u64, b: u64) -> Option<usize>

@@ -3,12 +3,14 @@ ghost use Rattle.sets.specs.Members.{Has, NoMember, Single, AllBelow, Adds, Drop
 
 use crate::bits;
 
-/// A set of items.
-#[derive(Clone, Copy, PartialEq, Eq, Debug)]
+/// A set of items; the default is the empty one.
+#[derive(Clone, Copy, PartialEq, Eq, Debug, Default)]
 pub struct Bundle {
     word: u64,
 }
 
+// No model: a clause sees the field, and with it that the word is below 2 ^ 64, which a model as a number would hide.
+// Items and bidders are two structs with operations of their own, by a rule of the project; what they share stands once, in `bits`.
 impl Bundle {
     /// The word whose bit i says whether item i is a member.
     pub fn word(self) -> u64

@@ -1,6 +1,5 @@
 ghost use Rattle.std.specs.Prelude.{◌≡◌};
 ghost use Rattle.book.specs.Model.{welfare};
-ghost use Rattle.book.specs.Views.{closed_view};
 ghost use Rattle.settlement.specs.Awards.{everyone};
 
 use book::ClosedBook;
@@ -9,8 +8,8 @@ use sets::BidderSet;
 
 /// The winners, every bidder admitted, and their welfare.
 pub fn award<Rule: AllocationRule>(rule: &Rule, book: &ClosedBook) -> (BidderSet, u64)
-    ensures winners { result.0.word ≡ Rule.winners rule.now (closed_view book.now) everyone }
-    ensures welfare { result.1 ≡ welfare (closed_view book.now) result.0.word }
+    ensures winners { result.0.word ≡ Rule.winners rule.now book.now everyone }
+    ensures welfare { result.1 ≡ welfare book.now result.0.word }
 {
     let winners = rule.choose(book, everyone());
     (winners, book.welfare(winners))

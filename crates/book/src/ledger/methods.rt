@@ -1,4 +1,4 @@
-ghost use Rattle.std.specs.Prelude.{[], ◌∷◌};
+ghost use Rattle.std.specs.Prelude.{◌≡◌, [], ◌∷◌};
 ghost use Rattle.book.specs.Model.{row as row_of};
 ghost use Rattle.book.specs.Checks.{Answers, bidder_exists, bid_stands};
 ghost use Rattle.book.specs.Views.{recorded};
@@ -6,16 +6,14 @@ ghost use Rattle.book.specs.Views.{recorded};
 use crate::ledger::Ledger;
 use crate::refusal::Refusal;
 use crate::row::{Mark, Row};
+use arrayvec::ArrayVec;
 
 impl Ledger {
     /// The bidder's row.
     pub(crate) fn row(&self, bidder: usize) -> Result<Row, Refusal>
         ensures { Answers (bidder_exists (recorded self.now) bidder ∷ []) (row_of (recorded self.now) bidder) result }
     {
-        if bidder >= self.rows.len() {
-            return Err(Refusal::NoSuchBidder);
-        }
-        Ok(self.rows.get(bidder))
+        self.rows.get(bidder).copied().ok_or(Refusal::NoSuchBidder)
     }
 
     /// The bidder's row, which stands.
@@ -26,6 +24,16 @@ impl Ledger {
         match row.mark {
             Mark::Standing => Ok(row),
             Mark::Withdrawn => Err(Refusal::BidWithdrawn),
+        }
+    }
+
+    /// The same items and rows once more.
+    pub(crate) fn copied(&self) -> Ledger
+        ensures { recorded result ≡ recorded self.now }
+    {
+        Ledger {
+            items: self.items,
+            rows: ArrayVec::try_from(self.rows.as_slice()).unwrap(),
         }
     }
 }

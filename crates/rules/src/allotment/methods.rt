@@ -19,29 +19,27 @@ impl Allotment {
     pub(crate) fn overlaps(self, bundle: Bundle) -> bool
         ensures { Decides result (Meet bundle.word self.taken.word) }
     {
-        let taken = self.taken;
-        bundle.shares(taken)
+        bundle.shares(self.taken)
     }
 
     /// Gives the bidder its bundle.
     pub(crate) fn with(self, bidder: usize, bundle: Bundle) -> Allotment
         ensures { Grants self bidder bundle.word result }
     {
-        let winners = self.winners.with(bidder);
-        let taken = self.taken.union(bundle);
-        Allotment { winners, taken }
+        Allotment {
+            winners: self.winners.with(bidder),
+            taken: self.taken.union(bundle),
+        }
     }
 
     /// Gives the bidder its bundle, unless an item of it is taken.
     pub(crate) fn offer(self, bidder: usize, bundle: Bundle) -> Allotment
         ensures { Offers self bidder bundle.word result }
     {
-        if bundle.shares(self.taken) {
-            return self;
-        }
-        Allotment {
-            winners: self.winners.with(bidder),
-            taken: self.taken.union(bundle),
+        if self.overlaps(bundle) {
+            self
+        } else {
+            self.with(bidder, bundle)
         }
     }
 }

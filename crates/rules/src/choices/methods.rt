@@ -1,58 +1,38 @@
-ghost use Rattle.std.specs.Prelude.{◌+◌, ◌^◌, ◌<◌, length};
-ghost use Rattle.book.specs.Model.{row};
-ghost use Rattle.book.specs.Views.{closed_view};
-ghost use Rattle.rules.specs.Choices.{Empty, Grows, JoinedBy, Foremost};
+ghost use Rattle.std.specs.Prelude.{◌+◌, ◌^◌, ◌<◌, ◌≤◌, length};
+ghost use Rattle.rules.specs.Choices.{Empty, Grows, Foremost};
 
 use crate::allotment::Allotment;
-use crate::choices::{ByWelfare, Choice, PLACES};
-use crate::waiting::takes_part;
-use book::{ClosedBook, ROW_LIMIT, Row};
+use crate::choices::{ByWelfare, Choice};
+use book::Row;
 use ranking::first;
-use sets::BidderSet;
 
-impl Choice {
-    /// Nobody.
-    pub(crate) fn none() -> Choice
-        ensures { Empty result }
-    {
+/// Nobody: what the search begins with, and what fills the unused places of a list of choices.
+impl Default for Choice {
+    ghost is_default = { Empty };
+
+    fn default() -> Self {
         Choice {
             allotment: Allotment::none(),
             welfare: 0,
         }
     }
+}
 
-    /// The first of the choices.
-    pub(crate) fn first_of(choices: &[Choice; PLACES]) -> Choice
+impl Choice {
+    /// The first of the choices, of which there is one at least.
+    #[tactic(auto, using(crate::proofs::Extending::foremost_at))]
+    pub(crate) fn first_of(choices: &[Choice]) -> Choice
+        requires { 1 ≤ length choices.now }
         ensures { Foremost choices.now result }
     {
-        match first(&ByWelfare, choices) {
-            Some(place) => choices[place],
-            None => choices[ROW_LIMIT],
-        }
+        let place = first(&ByWelfare, choices).unwrap();
+        choices[place]
     }
 
-    /// The choice with one bidder more; none if the bidder does not take part or shares an item with it.
-    pub(crate) fn joined_by(
-        self,
-        book: &ClosedBook,
-        admitted: BidderSet,
-        bidder: usize,
-    ) -> Option<Choice>
-        requires exists { bidder < length (closed_view book.now).rows }
-        requires room { self.welfare + (row (closed_view book.now) bidder).value < 2 ^ 64 }
-        ensures { JoinedBy (closed_view book.now) admitted.word self bidder result }
-    {
-        let row = book.rows()[bidder];
-        if takes_part(book, admitted, bidder) && !self.allotment.overlaps(row.bundle) {
-            Some(self.with(bidder, row))
-        } else {
-            None
-        }
-    }
-
-    fn with(self, bidder: usize, row: Row) -> Choice
-        requires { self.welfare + row.value < 2 ^ 64 }
-        ensures { Grows self bidder row result }
+    /// The choice with one bidder more.
+    pub(crate) fn with(self, bidder: usize, row: &Row) -> Choice
+        requires { self.welfare + row.now.value < 2 ^ 64 }
+        ensures { Grows self bidder row.now result }
     {
         Choice {
             allotment: self.allotment.with(bidder, row.bundle),

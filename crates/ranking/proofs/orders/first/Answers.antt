@@ -1,8 +1,12 @@
-use Rattle.ranking.proofs.Scans.{first_more}
+use Rattle.std.proofs.Common.{rules}
+use Rattle.std.proofs.lemmas.Iterator.{YieldsList-from_slice}
+use Rattle.std.proofs.lemmas.Iterator.Consumers.{YieldsList-from_enumerate}
+use Rattle.ranking.proofs.Reduced.{first_of_reduced}
 use Rattle.ranking.proofs.orders.first.Goals as goal
 
-pub loop-place-preserved : goal.loop-place-preserved
-loop-place-preserved g c =
-    let order = c.args.order.now in
-    first_more g.O.Order.identity (g.O.Order.before order) (g.met.O.Order.ordered order) c.args.items.now c.loop-place.place c.loop-place.best c.loop-place.invariant
-    c.earlier-best.result c.earlier-best.ensures
+pub returns : goal.returns
+returns g c =
+    let reduced = first_of_reduced (g.met.O.Order.ordered c.args.order.now) c.args.items.now c.enumerate.result _ _ c.reduce.result
+    c.reduce.ensures.ran (YieldsList-from_enumerate (YieldsList-from_slice c.args.items.now (cc)) c.enumerate.ensures.count)
+    (λ best next r f called. search rules) in
+    search rules

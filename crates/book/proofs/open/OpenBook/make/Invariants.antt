@@ -1,8 +1,7 @@
 use Rattle.std.proofs.Common.{◌≡◌, drop}
 use Rattle.book.specs.Runs.{run}
-use Rattle.book.specs.Views.{view}
 use Rattle.book.proofs.open.OpenBook.make.Given as goal
 
 -- the calls that are left lead to where all of them lead
 abbrev pub invariant-loop-call : goal.invariant-loop-call
-invariant-loop-call l = run (drop l.call-index l.calls) (view l.self) ≡ run l.calls (view l.initial.self)
+invariant-loop-call l = run (drop l.call-index l.calls) l.self ≡ run l.calls l.initial.self
