@@ -4,7 +4,6 @@ ghost use Rattle.book.specs.Checks.{Makes, argument_between};
 use crate::refusal::Refusal;
 
 /// An argument of a rule or of a test: a number from `LOW` to `HIGH`.
-// `Best`, `Fit` and `Hold` keep a constructor of one line each, so that callers give them a plain number.
 #[derive(Clone, Copy)]
 pub struct Argument<const LOW: usize, const HIGH: usize> {
     number: usize,

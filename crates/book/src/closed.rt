@@ -62,6 +62,7 @@ impl ClosedBook {
     }
 
     /// The bidder's row.
+    // One line over `Ledger::row`, as of an open book.
     pub fn show(&self, bidder: usize) -> Result<Row, Refusal>
         ensures { Answers (bidder_exists self.now bidder ∷ []) (row self.now bidder) result }
     {
@@ -72,7 +73,7 @@ impl ClosedBook {
     pub fn welfare(&self, set: BidderSet) -> u64
         ensures { result ≡ welfare_of self.now set.word }
     {
-        // A loop over the rows, by a rule of the project.
+        // A loop over the rows with their numbers, by a rule of the project: it reads as the sum is defined.
         let mut total = 0;
         for (bidder, row) in self.rows().iter().enumerate() {
             if set.has(bidder) {

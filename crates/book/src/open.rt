@@ -106,6 +106,7 @@ impl OpenBook {
     }
 
     /// The bidder's row.
+    // One line over `Ledger::row`, as of a closed book.
     #[tactic(auto, using(crate::proofs::Kept::ledger_within))]
     pub fn show(&self, bidder: usize) -> Result<Row, Refusal>
         ensures served { Serves (Show bidder) (row self.now bidder) self.now result self.now }

@@ -14,6 +14,7 @@ impl OpenBook {
         ensures served { Serves call (answer call self.old) self.old result self.new }
         ensures stepped { self.new ≡ step call self.old }
     {
+        // A call is data: the promises are about lists of calls.
         match call {
             Call::Size { items } => self.size(items).map(|()| Answer::Done),
             Call::Enter { bundle, value } => self.enter(bundle, value).map(Answer::Entered),

@@ -3,7 +3,7 @@ use sets::Bundle;
 use std::process::Abort;
 use std::test::Fail;
 
-// Shorter in a list of calls than the variants with the names of their fields.
+// Shorter in a list of calls than the variants with the names of their fields; the tour and the tests share no crate.
 pub(crate) fn enter(bundle: Bundle, value: u32) -> Call {
     Call::Enter { bundle, value }
 }

@@ -22,6 +22,7 @@ pub struct Fit {
 
 impl Fit {
     /// `most` is 1 to 64.
+    // One line, as of `Hold` and of `Best`: the check of the range stands once, in `Argument`.
     pub fn new(most: usize) -> Result<Fit, Refusal>
         ensures { Makes (argument_between 1 64 most ∷ []) (λ test. test.most.number ≡ most) result }
     {
@@ -50,6 +51,7 @@ pub struct Hold {
 
 impl Hold {
     /// `item` is 0 to 63.
+    // One line, as of `Fit` and of `Best`: the check of the range stands once, in `Argument`.
     pub fn new(item: usize) -> Result<Hold, Refusal>
         ensures { Makes (argument_between 0 63 item ∷ []) (λ test. test.item.number ≡ item) result }
     {

@@ -12,6 +12,7 @@ pub struct Contender {
 }
 
 /// What fills the unused places of a list of contenders with a fixed capacity: worthless, as small as can be, and of row 0.
+// By hand: no derive fills ghost fields.
 impl Default for Contender {
     ghost is_default = { λ c. (c.value ≡ 0) × (c.size ≡ 1) × (c.number ≡ 0) };
 

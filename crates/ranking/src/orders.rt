@@ -8,6 +8,7 @@ pub trait Order<T> {
     // Elements of different identity are different elements.
     ghost identity: { T → ℕ };
 
+    // Two elements and no struct of both: they are the question.
     fn comes_before(&self, a: &T, b: &T) -> bool
         ensures { Decides result (before self.now a.now b.now) };
 

@@ -141,7 +141,8 @@ module _ (b : Book) (limits : WithinLimits b) (w from k : ℕ) (c : Choice) (is_
           ⊎_elim (so_far.grown d)
           (λ (same : r ≡ d).
           subst (λ (e : Choice). Extends b w from k x (chosen e)) same
-          (extends_back b w k x n new (chosen larger) adds low some from above (chosen r) best.extends)) (Contains-push_cases choices r d at);
+          (extends_back b w k x n new (chosen larger) adds low some from above (chosen r) best.extends))
+          (Contains-push_cases choices r d at);
       own = Contains-append_left choices (r ∷ []) c so_far.own;
       best = λ j above_j under z can here.
           ⊎_elim

@@ -21,6 +21,7 @@ pub struct Best {
 
 impl Best {
     /// `most` is 1 to 3.
+    // One line, as of the tests of bundles: the check of the range stands once, in `Argument`.
     pub fn new(most: usize) -> Result<Best, Refusal>
         ensures { Makes (argument_between 1 3 most ∷ []) (λ rule. rule.most.number ≡ most) result }
     {
@@ -47,8 +48,8 @@ impl AllocationRule for Best {
 }
 
 impl Round<'_> {
-    /// The best set of at most `most` bidders: what nobody can be extended to.
-    // Said of the round, so that the clauses of `choose` follow from these by search alone.
+    /// The best set of at most `most` bidders: the best that the empty set can be extended to.
+    // Said of the round, so that the clauses `rule` and `best` of `choose` follow from these by search.
     fn best_of(&self, most: usize) -> BidderSet
         ensures rule { result.word ≡ best most self.now.book.now self.now.admitted.word }
         ensures best { IsBest most self.now.book.now self.now.admitted.word result.word }
@@ -78,16 +79,14 @@ impl Round<'_> {
         Choice::first_of(choices.as_slice())
     }
 
+    // Number and row as `enumerate` gives them.
     /// The choice with one bidder more; none if the bidder does not take part or shares an item with it.
     fn join(&self, choice: Choice, bidder: usize, row: &Row) -> Option<Choice>
         requires own { IsRowOf self.now.book.now bidder row.now }
         requires room { choice.welfare + row.now.value < 2 ^ 64 }
         ensures { JoinedBy self.now.book.now self.now.admitted.word choice bidder result }
     {
-        if self.takes_part(bidder, row) && !choice.allotment.overlaps(row.bundle) {
-            Some(choice.with(bidder, row))
-        } else {
-            None
-        }
+        let joins = self.takes_part(bidder, row) && !choice.allotment.overlaps(row.bundle);
+        joins.then(|| choice.with(bidder, row))
     }
 }

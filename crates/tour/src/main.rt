@@ -12,7 +12,7 @@ use sets::{BidderSet, Bundle};
 use settlement::award;
 use std::io;
 
-// Shorter in a list of calls than the variants with the names of their fields.
+// Shorter in a list of calls than the variants with the names of their fields; the tour and the tests share no crate.
 fn enter(bundle: Bundle, value: u32) -> Call {
     Call::Enter { bundle, value }
 }

@@ -7,6 +7,7 @@ use book::Row;
 use ranking::first;
 
 /// Nobody: what the search begins with, and what fills the unused places of a list of choices.
+// By hand, so that its clause is in words of the set, where a derive speaks of the fields.
 impl Default for Choice {
     ghost is_default = { Empty };
 
@@ -30,6 +31,7 @@ impl Choice {
     }
 
     /// The choice with one bidder more.
+    // Number and row as `enumerate` gives them.
     pub(crate) fn with(self, bidder: usize, row: &Row) -> Choice
         requires { self.welfare + row.now.value < 2 ^ 64 }
         ensures { Grows self bidder row.now result }
