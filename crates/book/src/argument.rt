@@ -24,6 +24,7 @@ impl<const LOW: usize, const HIGH: usize> TryFrom<usize> for Argument<LOW, HIGH>
 }
 
 impl<const LOW: usize, const HIGH: usize> Argument<LOW, HIGH> {
+    /// The number.
     pub fn get(self) -> usize
         ensures { result ≡ self.entry.number }
     {

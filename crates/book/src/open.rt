@@ -29,8 +29,10 @@ impl Model for OpenBook {
 
 impl OpenBook {
     /// A fresh book: 64 items and no rows.
+    #[tactic(auto, using(crate::proofs::Kept::ledger_within))]
     pub fn new() -> OpenBook
-        ensures { result ≡ fresh }
+        ensures made { result ≡ fresh }
+        ensures limits { WithinLimits result }
     {
         OpenBook {
             ledger: Ledger {
@@ -41,13 +43,17 @@ impl OpenBook {
     }
 
     /// Sets the number of items, before the first row is entered.
+    #[tactic(auto, using(crate::proofs::Kept::ledger_within))]
     pub fn size(&mut self, items: usize) -> Result<(), Refusal>
-        ensures { Serves (Size items) tt self.old result self.new }
+        ensures served { Serves (Size items) tt self.old result self.new }
+        ensures limits { WithinLimits self.old × WithinLimits self.new }
     {
+        // read before the first check, so that its refusal, too, knows the limits
+        let entered = !self.ledger.rows.is_empty();
         if items < 1 || items > ITEM_LIMIT {
             return Err(Refusal::ItemCountOutOfRange);
         }
-        if !self.ledger.rows.is_empty() {
+        if entered {
             return Err(Refusal::SizeAfterEntry);
         }
         self.ledger.items = items;
@@ -55,8 +61,10 @@ impl OpenBook {
     }
 
     /// Adds a standing row, and gives its number.
+    #[tactic(auto, using(crate::proofs::Kept::ledger_within))]
     pub fn enter(&mut self, bundle: Bundle, value: u32) -> Result<usize, Refusal>
-        ensures { Serves (Enter bundle value) (length self.old.rows) self.old result self.new }
+        ensures served { Serves (Enter bundle value) (length self.old.rows) self.old result self.new }
+        ensures limits { WithinLimits self.old × WithinLimits self.new }
     {
         if self.ledger.rows.is_full() {
             return Err(Refusal::BookFull);
@@ -80,9 +88,10 @@ impl OpenBook {
     }
 
     /// Gives a standing row another value.
-    #[tactic(auto, using(crate::proofs::Kept::row_set))]
+    #[tactic(auto, using(crate::proofs::Kept::row_set, crate::proofs::Kept::ledger_within))]
     pub fn revise(&mut self, bidder: usize, value: u32) -> Result<(), Refusal>
-        ensures { Serves (Revise bidder value) tt self.old result self.new }
+        ensures served { Serves (Revise bidder value) tt self.old result self.new }
+        ensures limits { WithinLimits self.old × WithinLimits self.new }
     {
         let row = self.ledger.standing_row(bidder)?;
         if value > VALUE_LIMIT {
@@ -93,9 +102,10 @@ impl OpenBook {
     }
 
     /// Marks a standing row withdrawn.
-    #[tactic(auto, using(crate::proofs::Kept::row_set))]
+    #[tactic(auto, using(crate::proofs::Kept::row_set, crate::proofs::Kept::ledger_within))]
     pub fn withdraw(&mut self, bidder: usize) -> Result<(), Refusal>
-        ensures { Serves (Withdraw bidder) tt self.old result self.new }
+        ensures served { Serves (Withdraw bidder) tt self.old result self.new }
+        ensures limits { WithinLimits self.old × WithinLimits self.new }
     {
         let row = Row {
             mark: Mark::Withdrawn,

@@ -1,5 +1,6 @@
 ghost use Rattle.std.specs.Prelude.{◌≡◌};
 ghost use Rattle.book.specs.Checks.{Serves, answer};
+ghost use Rattle.book.specs.Limits.{WithinLimits};
 ghost use Rattle.book.specs.Model.{fresh};
 ghost use Rattle.book.specs.Runs.{step, run, AcceptsByChecks, OnlyValueMoves, EachHasBid};
 
@@ -13,6 +14,7 @@ impl OpenBook {
     pub fn apply(&mut self, call: Call) -> Result<Answer, Refusal>
         ensures served { Serves call (answer call self.old) self.old result self.new }
         ensures stepped { self.new ≡ step call self.old }
+        ensures limits { WithinLimits self.old × WithinLimits self.new }
     {
         // A call is data: the promises are about lists of calls.
         match call {
@@ -26,7 +28,8 @@ impl OpenBook {
 
     /// Makes the calls one after the other.
     fn make(&mut self, calls: &[Call])
-        ensures { self.new ≡ run calls.now self.old }
+        ensures made { self.new ≡ run calls.now self.old }
+        ensures limits { WithinLimits self.old → WithinLimits self.new }
     {
         for &call in calls {
             let _ = self.apply(call);
@@ -40,6 +43,7 @@ impl OpenBook {
         ensures checked { AcceptsByChecks }
         ensures alone { OnlyValueMoves calls.now }
         ensures bids { EachHasBid calls.now }
+        ensures limits { WithinLimits result }
     {
         let mut book = OpenBook::new();
         book.make(calls);

@@ -1,4 +1,5 @@
 ghost use Rattle.std.specs.Prelude.{◌≡◌};
+ghost use Rattle.book.specs.Limits.{WithinLimits};
 ghost use Rattle.layers.specs.Better.{BetterOf, better};
 ghost use Rattle.layers.specs.TwoRules.{better_monotone, better_bitonic};
 
@@ -23,6 +24,7 @@ impl<A: AllocationRule, B: AllocationRule> AllocationRule for Better<A, B> {
     fn choose(&self, book: &ClosedBook, admitted: BidderSet) -> BidderSet
         ensures rule { result.word ≡ better (A.winners self.now.first) (B.winners self.now.second) book.now admitted.word }
         ensures chosen { BetterOf book.now (A.winners self.now.first book.now admitted.word) (B.winners self.now.second book.now admitted.word) result.word }
+        ensures limits { WithinLimits book.now }
     {
         let first = self.first.choose(book, admitted);
         let second = self.second.choose(book, admitted);

@@ -1,4 +1,5 @@
 ghost use Rattle.std.specs.Prelude.{◌≡◌};
+ghost use Rattle.book.specs.Limits.{WithinLimits};
 ghost use Rattle.layers.specs.Filters.{Passing, Shown, passing, filtered};
 ghost use Rattle.layers.specs.ShownBidders.{filtered_monotone, filtered_bitonic};
 
@@ -20,6 +21,7 @@ impl<A: AllocationRule, T: BundleTest> Filtered<A, T> {
     fn admit(&self, book: &ClosedBook, admitted: BidderSet) -> BidderSet
         ensures word { result.word ≡ passing (T.meaning self.now.test) book.now admitted.word }
         ensures members { Passing (T.meaning self.now.test) book.now admitted.word result.word }
+        ensures limits { WithinLimits book.now }
     {
         let mut left = admitted;
         for (bidder, row) in book.rows().iter().enumerate() {
@@ -41,6 +43,7 @@ impl<A: AllocationRule, T: BundleTest> AllocationRule for Filtered<A, T> {
     fn choose(&self, book: &ClosedBook, admitted: BidderSet) -> BidderSet
         ensures rule { result.word ≡ filtered (T.meaning self.now.test) (A.winners self.now.rule) book.now admitted.word }
         ensures shown { Shown (T.meaning self.now.test) (A.winners self.now.rule) book.now admitted.word result.word }
+        ensures limits { WithinLimits book.now }
     {
         self.rule.choose(book, self.admit(book, admitted))
     }

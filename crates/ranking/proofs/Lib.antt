@@ -1,2 +1,1 @@
-mod Reduced
 pub mod Seen

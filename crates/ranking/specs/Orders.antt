@@ -7,11 +7,16 @@ pub record StrictOrder {T : Type 0} (identity : T → ℕ) (before : T → T →
   -- of two different elements, one comes before the other
   pub total : (a b : T) → (identity a ≢ identity b) → before a b ⊎ before b a
 
--- p is a place, and at none stands an element that comes before the one at p
-pub record FirstOf {T : Type 0} (before : T → T → Type 0) (xs : List T) (p : ℕ) : Type 0 where
-  pub inside : p < length xs
-  pub least : (k : ℕ) (d : T) → k < length xs → before (slice_index_or xs k d) (slice_index_or xs p d) → ⊥
+-- p is one of the first n places, and at none of them stands an element that comes before the one at p
+pub record FirstAmong {T : Type 0} (before : T → T → Type 0) (xs : List T) (n p : ℕ) : Type 0 where
+  pub inside : p < n
+  pub least : (k : ℕ) (d : T) → k < n → before (slice_index_or xs k d) (slice_index_or xs p d) → ⊥
 
--- r is b if b comes before a, otherwise a
-abbrev pub Earlier : {X : Type 0} → (X → X → Type 0) → X → X → X → Type 0
-Earlier before a b r = ((r ≡ b) × before b a) ⊎ ((r ≡ a) × (before b a → ⊥))
+-- the same of all places
+abbrev pub FirstOf : {T : Type 0} → (T → T → Type 0) → List T → ℕ → Type 0
+FirstOf before xs p = FirstAmong before xs (length xs) p
+
+-- r is b if the element there comes before the one at a, otherwise a
+abbrev pub Earlier : {T : Type 0} → (T → T → Type 0) → List T → ℕ → ℕ → ℕ → Type 0
+Earlier {T} before xs a b r =
+    ((r ≡ b) × ((d : T) → before (slice_index_or xs b d) (slice_index_or xs a d))) ⊎ ((r ≡ a) × ((d : T) → before (slice_index_or xs b d) (slice_index_or xs a d) → ⊥))

@@ -4,7 +4,6 @@ ghost use Rattle.ranking.specs.RankLaws.{value_ranks, root_ranks, item_ranks};
 
 use crate::contenders::Contender;
 use crate::rankings::Ranking;
-use std::cmp::Reverse;
 
 /// The greater value first.
 #[derive(Clone, Copy)]
@@ -65,7 +64,8 @@ impl Ranking for ByItem {
 fn leads(x: u64, y: u64, a: &Contender, b: &Contender) -> bool
     ensures { result ≡ leads_by x y a.now.number b.now.number }
 {
-    (Reverse(x), a.number) < (Reverse(y), b.number)
+    // Not by tuples, `(Reverse(x), a.number) < (Reverse(y), b.number)`: greedy awards of 64 rows take about twice the time with them.
+    x > y || x == y && a.number < b.number
 }
 
 /// The square, which may not fit the type of `value`.

@@ -1,6 +1,7 @@
 ghost use Rattle.std.specs.Prelude.{◌≡◌, ◌+◌, ◌^◌, ◌<◌, ◌≤◌, [], ◌∷◌};
 ghost use Rattle.sets.specs.Members.{Within};
 ghost use Rattle.book.specs.Checks.{Makes, argument_between};
+ghost use Rattle.book.specs.Limits.{WithinLimits};
 ghost use Rattle.rules.specs.Best.{IsBest, best, BestTheorems};
 ghost use Rattle.rules.specs.Choices.{chosen, Sound, JoinedBy, BestExtension};
 ghost use Rattle.rules.specs.Rounds.{IsRowOf};
@@ -42,6 +43,7 @@ impl AllocationRule for Best {
         ensures rule { result.word ≡ best self.now.most.number book.now admitted.word }
         ensures best { IsBest self.now.most.number book.now admitted.word result.word }
         ensures theorems { BestTheorems self.now.most.number }
+        ensures limits { WithinLimits book.now }
     {
         Round::new(book, admitted).best_of(self.most.get())
     }

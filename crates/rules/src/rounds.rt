@@ -1,4 +1,4 @@
-ghost use Rattle.std.specs.Prelude.{◌≡◌, length, Decides};
+ghost use Rattle.std.specs.Prelude.{◌≡◌, [], length, Decides};
 ghost use Rattle.sets.specs.Members.{Has};
 ghost use Rattle.book.specs.declared.row.Mark.TheVariants.{Standing};
 ghost use Rattle.ranking.specs.Views.{entry_of, seen};
@@ -34,18 +34,17 @@ impl<'b> Round<'b> {
         }
     }
 
-    /// All who take part.
-    pub(crate) fn contenders(&self) -> ArrayVec<Contender, ROW_LIMIT>
+    /// Lists all who take part, in a list that the caller lends: a list of 64 places is dear to hand out.
+    pub(crate) fn list_contenders(&self, waiting: &mut ArrayVec<Contender, ROW_LIMIT>)
+        requires { waiting.old.items ≡ [] }
         ensures { Waiting self.now.book.now self.now.admitted.word (length self.now.book.now.rows)
-            result.items }
+            waiting.new.items }
     {
-        let mut waiting = ArrayVec::new();
         for (bidder, row) in self.rows.iter().enumerate() {
             if self.takes_part(bidder, row) {
                 waiting.push(self.contender(bidder, row));
             }
         }
-        waiting
     }
 
     // Number and row are two parameters, as `enumerate` gives them: a struct of both would be built and taken apart at each turn.

@@ -1,4 +1,5 @@
 ghost use Rattle.std.specs.Prelude.{◌≡◌};
+ghost use Rattle.book.specs.Limits.{WithinLimits};
 ghost use Rattle.book.specs.Model.{welfare};
 ghost use Rattle.settlement.specs.Awards.{everyone};
 
@@ -10,6 +11,7 @@ use sets::BidderSet;
 pub fn award<Rule: AllocationRule>(rule: &Rule, book: &ClosedBook) -> (BidderSet, u64)
     ensures winners { result.0.word ≡ Rule.winners rule.now book.now everyone }
     ensures welfare { result.1 ≡ welfare book.now result.0.word }
+    ensures limits { WithinLimits book.now }
 {
     let winners = rule.choose(book, everyone());
     (winners, book.welfare(winners))

@@ -31,9 +31,11 @@ impl Ledger {
     pub(crate) fn copied(&self) -> Ledger
         ensures { recorded result ≡ recorded self.now }
     {
+        let mut rows = ArrayVec::new();
+        rows.try_extend_from_slice(self.rows.as_slice()).unwrap();
         Ledger {
             items: self.items,
-            rows: ArrayVec::try_from(self.rows.as_slice()).unwrap(),
+            rows,
         }
     }
 }

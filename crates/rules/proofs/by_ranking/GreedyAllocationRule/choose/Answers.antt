@@ -53,4 +53,9 @@ returns g c =
     let empty = rw c.as_slice.ensures.value at c.in_default.ensures in
     let turns = serving_end before b w c.loop-place.waiting.items c.loop-place.allotment c.loop-place.invariant empty in
     let theorems = greedy_theorems before (g.met.R.Ranking.ranks ranking) in
-    record { rule = theorems.one b w _ _ is_asked turns (theorems.found b w is_asked); turns = turns; theorems = theorems }
+    record {
+      rule = theorems.one b w _ _ is_asked turns (theorems.found b w is_asked);
+      turns = turns;
+      theorems = theorems;
+      limits = is_asked.limits;
+    }

@@ -1,8 +1,8 @@
 use Rattle.std.proofs.Common.{rules}
 use Rattle.rules.specs.Laws.{TakesPart}
 use Rattle.rules.proofs.WaitingLists.{waiting_pass, waiting_push}
-use Rattle.rules.proofs.rounds.Round.contenders.Goals as goal
-use Rattle.rules.proofs.rounds.Round.contenders.Goals.{then-takes_part, else-takes_part}
+use Rattle.rules.proofs.rounds.Round.list_contenders.Goals as goal
+use Rattle.rules.proofs.rounds.Round.list_contenders.Goals.{then-takes_part, else-takes_part}
 
 pub loop-bidder-preserved : goal.loop-bidder-preserved
 loop-bidder-preserved c =

@@ -1,6 +1,6 @@
 use Rattle.std.proofs.Common.{◌≤◌, length}
 use Rattle.rules.specs.WaitingLists.{Waiting}
-use Rattle.rules.proofs.rounds.Round.contenders.Given as goal
+use Rattle.rules.proofs.rounds.Round.list_contenders.Given as goal
 
 abbrev pub invariant-loop-bidder : goal.invariant-loop-bidder
 invariant-loop-bidder l =
