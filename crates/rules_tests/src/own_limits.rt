@@ -9,7 +9,7 @@ pub(crate) fn item_count(book: &ClosedBook) -> u8 {
     book.items() as u8
 }
 
-/// What `show` needs is told by `show`: the value, which fits an `i32`.
+/// The bidder's value, which fits an `i32`.
 pub(crate) fn signed_value(book: &ClosedBook, bidder: usize) -> Result<i32, Refusal> {
     let row = book.show(bidder)?;
     Ok(row.value as i32)
